@@ -1,0 +1,6 @@
+pub mod Choice
+pub mod Bits
+pub mod Lists
+pub mod Parts
+pub mod Numbers
+pub mod Settled

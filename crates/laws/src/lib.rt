@@ -1,0 +1,1 @@
+// General facts only: definitions in specs/, laws in proofs/. No code, and no word of this project.
