@@ -2,3 +2,4 @@ pub mod Values
 pub mod Kind
 pub mod Read
 pub mod Write
+pub mod Promises

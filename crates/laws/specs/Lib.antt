@@ -4,3 +4,4 @@ pub mod Lists
 pub mod Parts
 pub mod Numbers
 pub mod Settled
+pub mod Counts
