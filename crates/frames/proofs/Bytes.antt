@@ -21,7 +21,13 @@ use Rattle.frames.specs.declared.message.Addressed.{Addressed}
 use Rattle.frames.specs.declared.message.Target.{Target}
 use Rattle.frames.specs.declared.message.Targeted.{Targeted}
 
--- what a byte was read as gives the byte back: computed at each byte
+-- a test of the odd bytes that is computed, one byte after the other, holds of each
+pub at-odd : (t : ℕ → Bool) → every (λ n. t (n * 2 + 1)) (below 128) ≡ true → (b : ℕ) → b < 256 → b % 2 ≡ 1 → t b ≡ true
+at-odd t right b small odd =
+    let e : b / 2 * 2 + 1 ≡ b = omega arith in
+    subst (λ (n : ℕ). t n ≡ true) e (at-each (λ n. t (n * 2 + 1)) 128 right (b / 2) (omega arith))
+
+-- what a byte was read as gives the byte back
 abbrev pub addressBack : ℕ → Addressed → Bool
 addressBack b (Addressed.To a) = addressFits a && eqb (addressByte a) b
 addressBack b (Addressed.Special s) = ltb s 16 && eqb (0xC1 + s * 2) b
@@ -29,10 +35,7 @@ addressBack b Addressed.Reserved = true
 
 pub address-back : (b : ℕ) → b < 256 → b % 2 ≡ 1 → addressBack b (addressOf b) ≡ true
 unfolding addressOf bits
-address-back b small odd =
-    let e : b / 2 * 2 + 1 ≡ b = omega arith in
-    subst (λ (n : ℕ). addressBack n (addressOf n) ≡ true) e
-    (at-each (λ n. addressBack (n * 2 + 1) (addressOf (n * 2 + 1))) 128 refl (b / 2) (omega arith))
+address-back = at-odd (λ b. addressBack b (addressOf b)) refl
 
 abbrev pub targetBack : ℕ → Targeted → Bool
 targetBack b (Targeted.At t) = ltb (targetNumber t) 32 && eqb (targetByte t) b
@@ -40,7 +43,7 @@ targetBack b Targeted.Reserved = true
 
 pub target-back : (b : ℕ) → b < 256 → targetBack b (targetOf b) ≡ true
 unfolding targetOf targetAt kindOf
-target-back b small = at-each (λ n. targetBack n (targetOf n)) 256 refl b small
+target-back = at-each (λ b. targetBack b (targetOf b)) 256 refl
 
 -- an address that fits is read from its byte, which is an odd byte
 pub address-forth : (a : Address) → addressFits a ≡ true →

@@ -28,7 +28,7 @@ use Rattle.frames.proofs.Bytes.{addressBack, address-back, targetBack, 
 
 -- a frame as the sum of its fields: a command, an event, a power event
 module _ (f : ℕ) (frame : f < 2 ^ 24) where
-  command-sum : (f ≡ bits f 7 0 + 256 * bits f 15 8 + 65536 * bits f 23 16) × (bits f 23 16 % 2 ≡ bit f 16)
+  pub command-sum : (f ≡ bits f 7 0 + 256 * bits f 15 8 + 65536 * bits f 23 16) × (bits f 23 16 % 2 ≡ bit f 16)
   command-sum =
       let all = above-all f in
       let none = above-none f 24 frame in

@@ -3,3 +3,4 @@ pub mod Kind
 pub mod Read
 pub mod Write
 pub mod Promises
+pub mod Refusals
