@@ -1,3 +1,4 @@
 pub mod Bytes
 pub mod Round
 pub mod Refusals
+pub mod Composed
