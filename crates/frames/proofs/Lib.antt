@@ -3,3 +3,5 @@ pub mod Round
 pub mod Refusals
 pub mod Composed
 pub mod Bench
+pub mod Settled
+pub mod Worded

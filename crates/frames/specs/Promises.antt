@@ -1,14 +1,16 @@
--- The promises about the definitions. They are proved in proofs/Round.antt and proofs/Composed.antt.
+-- The promises about the definitions. They are proved in proofs/Round.antt, proofs/Composed.antt, proofs/Worded.antt and proofs/Settled.antt.
 -- Assumes nothing.
 use mathlib.Core.Path.{_≡_}
 use mathlib.Core.Bool.{true}
 use Prim.Native.Nat.{ℕ, _^_, _<_}
 use lib.Count.{trailingZeros}
 use Rattle.laws.specs.Bits.{bit}
-use Rattle.frames.specs.Values.{schemeAt}
+use Rattle.laws.specs.Settled.{Settles}
+use Rattle.frames.specs.Values.{addressNumber, targetNumber, schemeAt, fieldValue}
 use Rattle.frames.specs.Read.{readOf}
 use Rattle.frames.specs.Write.{writeOf}
 use Rattle.frames.specs.Compose.{sourceFits, shippedOf, firstCarried, secondCarried, eventBy, composeOf, powerFits, powerBy, composePowerOf}
+use Rattle.frames.specs.Word.{wordOf, messageOf}
 use Rattle.frames.specs.declared.message.Field.{Field}
 use Rattle.frames.specs.declared.message.Message.{Message}
 use Rattle.frames.specs.declared.message.Reading.{Reading}
@@ -51,3 +53,34 @@ ComposesPower = (short groups : ℕ) → powerFits short groups ≡ true →
 abbrev pub Lowest : Type 0
 Lowest = (groups : ℕ) → 0 < groups → groups < 2 ^ 32 →
     (trailingZeros 32 groups < 32) × (bit groups (trailingZeros 32 groups) ≡ 1) × ((k : ℕ) → k < trailingZeros 32 groups → bit groups k ≡ 0)
+
+-- whatever the types can hold: a byte field is a byte, the information is below 2 ^ 16
+abbrev pub Held : Message → Type 0
+Held (Message.Command a t o) = (addressNumber a < 256) × (targetNumber t < 256) × (o < 256)
+Held (Message.Special n x y) = (n < 256) × (x < 256) × (y < 256)
+Held (Message.Event s x y i) = (x < 256) × (y < 256) × (i < 2 ^ 16)
+Held (Message.Power g s) = (fieldValue g < 256) × (fieldValue s < 256)
+
+-- a word made of a message gives the message back
+abbrev pub WordGives : Type 0
+WordGives = (m : Message) → Held m → messageOf (wordOf (Reading.Got m)) ≡ Reading.Got m
+
+-- a word that gives a message is that message's word
+abbrev pub GivesWord : Type 0
+GivesWord = (w : ℕ) (m : Message) → messageOf w ≡ Reading.Got m → Held m × (wordOf (Reading.Got m) ≡ w)
+
+-- so 6 is given exactly if no message has the word
+abbrev pub NoMessage : ℕ → Type 0
+NoMessage w = (m : Message) → Held m → wordOf (Reading.Got m) ≡ w → ⊥
+
+abbrev pub WordRefused : Type 0
+WordRefused = (w : ℕ) → (messageOf w ≡ Reading.Refused 6 → NoMessage w) × (NoMessage w → messageOf w ≡ Reading.Refused 6)
+
+-- results that meet the same promise are equal, for each public call
+pub record Settled : Type 0 where
+  pub read : (f : ℕ) → Settles (λ (r : Reading). r ≡ readOf f)
+  pub write : (m : Message) → Settles (λ (r : Writing). r ≡ writeOf m)
+  pub compose-event : (e : Source) → Settles (λ (r : Writing). r ≡ composeOf e)
+  pub compose-power : (short groups : ℕ) → Settles (λ (r : Writing). r ≡ composePowerOf short groups)
+  pub word-of : (x : Reading) → Settles (λ (r : ℕ). r ≡ wordOf x)
+  pub message-of : (w : ℕ) → Settles (λ (r : Reading). r ≡ messageOf w)
