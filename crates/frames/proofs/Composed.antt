@@ -13,7 +13,9 @@ use Rattle.laws.proofs.Tests.{if-by, if-eq, both}
 use Rattle.laws.proofs.Trailing.{lowest-set, lowest-clear, lowest-found}
 use Rattle.frames.specs.Values.{schemeAt, fieldValue, writingNumber}
 use Rattle.frames.specs.Write.{schemeLimit, eventFits, messageFits, frameOf, writeOf}
-use Rattle.frames.specs.Compose.{orMissing, sourceFits, shippedOf, orBlank, lowestGroup, firstCarried, secondCarried, eventWith, eventBy, composeOf, powerFits, powerBy, composePowerOf}
+use Rattle.frames.specs.Compose.{orMissing, sourceFits, shippedOf, orBlank, lowestGroup, firstCarried}
+use Rattle.frames.specs.Compose.{secondCarried, eventWith, eventBy, composeOf, powerFits, powerBy}
+use Rattle.frames.specs.Compose.{composePowerOf}
 use Rattle.frames.specs.Promises.{Composes, Carries, FallsBack, ComposesPower, Lowest}
 use Rattle.frames.specs.Refusals.{composerTests, ComposerNumbers, powerTests, PowerNumbers}
 use Rattle.frames.specs.declared.message.Field.{Field}
@@ -50,7 +52,7 @@ blank-below x limit p e = if-eq (Below limit) x 255 (λ _. p) (λ n. go n (ltb x
 
 group-below : (groups : ℕ) → groups < 2 ^ 32 → Below 32 (lowestGroup groups)
 unfolding lowestGroup
-group-below groups h = if-eq (Below 32) groups 0 (λ _. omega arith) (λ n. lowest-found 32 groups (omega arith) h)
+group-below groups h = if-eq (Below 32) groups _ (λ _. omega arith) (λ n. lowest-found 32 groups (omega arith) h)
 
 record InRange (e : Source) : Type 0 where
   sort : e .sort < 32
@@ -145,7 +147,10 @@ composes-power short groups e =
 pub composer-numbers : ComposerNumbers
 unfolding composeOf firstFailing
 composer-numbers e =
-    if-by (λ w. writingNumber w ≡ firstFailing (composerTests e)) (sourceFits e) (λ f. simp (f, event-written e f)) (λ f. simp f)
+    if-by (λ w. writingNumber w ≡ firstFailing (composerTests e)) (sourceFits e) (λ f. simp (
+      f,
+      event-written e f,
+    )) (λ f. simp f)
 
 pub power-numbers : PowerNumbers
 unfolding composePowerOf firstFailing

@@ -8,7 +8,8 @@ use borrow.Author.Tests.{eq-eqb}
 use Rattle.laws.specs.Bits.{bits}
 use Rattle.laws.proofs.Tests.{if-eq}
 use Rattle.laws.proofs.Bits.{above-all, above-none, cut, small, bits-is}
-use Rattle.frames.specs.Values.{addressKind, addressNumber, addressAt, targetKind, targetNumber, targetAt, schemeNumber, schemeAt, fieldPresent, fieldValue, fieldAt}
+use Rattle.frames.specs.Values.{addressKind, addressNumber, addressAt, targetKind, targetNumber, targetAt}
+use Rattle.frames.specs.Values.{schemeNumber, schemeAt, fieldPresent, fieldValue, fieldAt}
 use Rattle.frames.specs.Read.{aimed}
 use Rattle.frames.specs.Word.{sixBytes, messageKind, messageValues, wordOf, messageAt, matched, messageOf}
 use Rattle.frames.specs.Promises.{Held, WordGives, GivesWord, NoMessage, WordRefused}
@@ -49,7 +50,8 @@ field-at (Field.Holds v) = (refl, lit< tt)
 
 -- the event of each scheme is that of its kind
 event-at : (s : Scheme) (x y c d e : ℕ) →
-    (messageAt (2 + schemeNumber s) x y c d e ≡ Reading.Got (Message.Event s x y (c * 256 + d))) × (2 + schemeNumber s < 256)
+    (messageAt (2 + schemeNumber s) x y c d e ≡ Reading.Got (Message.Event s x y (c * 256 + d)))
+    × (2 + schemeNumber s < 256)
 unfolding messageAt schemeAt
 event-at Scheme.TypeNumber x y c d e = (refl, lit< tt)
 event-at Scheme.ShortType x y c d e = (refl, lit< tt)

@@ -1,4 +1,4 @@
--- The promises about the definitions. They are proved in proofs/Round.antt, proofs/Composed.antt, proofs/Worded.antt and proofs/Settled.antt.
+-- The promises about the definitions. They are proved in proofs/: Round, Composed, Worded and Settled.
 -- Assumes nothing.
 use mathlib.Core.Path.{_≡_}
 use mathlib.Core.Bool.{true}
@@ -9,7 +9,8 @@ use Rattle.laws.specs.Settled.{Settles}
 use Rattle.frames.specs.Values.{addressNumber, targetNumber, schemeAt, fieldValue}
 use Rattle.frames.specs.Read.{readOf}
 use Rattle.frames.specs.Write.{writeOf}
-use Rattle.frames.specs.Compose.{sourceFits, shippedOf, firstCarried, secondCarried, eventBy, composeOf, powerFits, powerBy, composePowerOf}
+use Rattle.frames.specs.Compose.{sourceFits, shippedOf, firstCarried, secondCarried, eventBy, composeOf}
+use Rattle.frames.specs.Compose.{powerFits, powerBy, composePowerOf}
 use Rattle.frames.specs.Word.{wordOf, messageOf}
 use Rattle.frames.specs.declared.message.Field.{Field}
 use Rattle.frames.specs.declared.message.Message.{Message}
@@ -32,17 +33,32 @@ OneMessage = (m n : Message) (f : ℕ) → writeOf m ≡ Writing.Frame f → wri
 
 -- what is composed in range is a frame, never a refusal, and reads back as the event of its scheme
 abbrev pub Composes : Type 0
-Composes = (e : Source) → sourceFits e ≡ true → (f : ℕ) × (composeOf e ≡ Writing.Frame f) × (readOf f ≡ Reading.Got (eventBy e))
+Composes = (e : Source) → sourceFits e ≡ true →
+    (f : ℕ) × (composeOf e ≡ Writing.Frame f) × (readOf f ≡ Reading.Got (eventBy e))
 
 -- that event has the fields that its scheme carries
 abbrev pub Carries : Type 0
-Carries = (e : Source) (s : Scheme) (first : ℕ) → schemeAt (shippedOf (e .scheme)) ≡ s → firstCarried s e ≡ Field.Holds first →
+Carries = (e : Source) (s : Scheme) (first : ℕ) →
+    schemeAt (shippedOf (e .scheme)) ≡ s → firstCarried s e ≡ Field.Holds first →
     eventBy e ≡ Message.Event s first (secondCarried s e) (e .information)
+
+-- the same source, by another scheme
+abbrev pub byScheme : ℕ → Source → Source
+byScheme n e =
+    record {
+      sort = e .sort;
+      number = e .number;
+      primary = e .primary;
+      short = e .short;
+      groups = e .groups;
+      information = e .information;
+      scheme = n;
+    }
 
 -- a scheme whose field is missing falls back to 0
 abbrev pub FallsBack : Type 0
 FallsBack = (e : Source) → firstCarried (schemeAt (shippedOf (e .scheme))) e ≡ Field.Blank →
-    eventBy e ≡ eventBy (record { sort = e .sort; number = e .number; primary = e .primary; short = e .short; groups = e .groups; information = e .information; scheme = 0 })
+    eventBy e ≡ eventBy (byScheme 0 e)
 
 -- the same of a power event
 abbrev pub ComposesPower : Type 0
@@ -52,7 +68,9 @@ ComposesPower = (short groups : ℕ) → powerFits short groups ≡ true →
 -- the trailing zeros of the 32 group bits are the lowest group: a member, and none below is
 abbrev pub Lowest : Type 0
 Lowest = (groups : ℕ) → 0 < groups → groups < 2 ^ 32 →
-    (trailingZeros 32 groups < 32) × (bit groups (trailingZeros 32 groups) ≡ 1) × ((k : ℕ) → k < trailingZeros 32 groups → bit groups k ≡ 0)
+    (trailingZeros 32 groups < 32)
+    × (bit groups (trailingZeros 32 groups) ≡ 1)
+    × ((k : ℕ) → k < trailingZeros 32 groups → bit groups k ≡ 0)
 
 -- whatever the types can hold: a byte field is a byte, the information is below 2 ^ 16
 abbrev pub Held : Message → Type 0
@@ -74,7 +92,8 @@ abbrev pub NoMessage : ℕ → Type 0
 NoMessage w = (m : Message) → Held m → wordOf (Reading.Got m) ≡ w → ⊥
 
 abbrev pub WordRefused : Type 0
-WordRefused = (w : ℕ) → (messageOf w ≡ Reading.Refused 6 → NoMessage w) × (NoMessage w → messageOf w ≡ Reading.Refused 6)
+WordRefused = (w : ℕ) →
+    (messageOf w ≡ Reading.Refused 6 → NoMessage w) × (NoMessage w → messageOf w ≡ Reading.Refused 6)
 
 -- results that meet the same promise are equal, for each public call
 pub record Settled : Type 0 where

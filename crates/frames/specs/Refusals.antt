@@ -17,11 +17,11 @@ use Rattle.frames.specs.declared.message.Message.{Message}
 use Rattle.frames.specs.declared.message.Source.{Source}
 
 -- bit 16 set means command, clear means event
-unfoldable pub isCommand : ℕ → Bool
+abbrev pub isCommand : ℕ → Bool
 isCommand f = eqb (bit f 16) 1
 
 -- 1: frame 16,777,216 or more
-unfoldable pub tooLarge : ℕ → Bool
+abbrev pub tooLarge : ℕ → Bool
 tooLarge f = not (ltb f 16777216)
 
 -- an odd address byte that is none of the five forms
@@ -30,7 +30,7 @@ reservedAddress b =
     eqb (bit b 0) 1 && not (shortForm b || (groupForm b || (eqb b 0xFD || (eqb b 0xFF || specialForm b))))
 
 -- 2: reserved address byte
-unfoldable pub reservedAddressByte : ℕ → Bool
+abbrev pub reservedAddressByte : ℕ → Bool
 reservedAddressByte f = isCommand f && reservedAddress (bits f 23 16)
 
 -- an instance byte that the table of kinds leaves out
@@ -38,15 +38,15 @@ unfoldable pub reservedInstance : ℕ → Bool
 reservedInstance b = eqb (kindOf b) 0
 
 -- 3: reserved instance byte; a special command has none
-unfoldable pub reservedInstanceByte : ℕ → Bool
+abbrev pub reservedInstanceByte : ℕ → Bool
 reservedInstanceByte f = isCommand f && (not (specialForm (bits f 23 16)) && reservedInstance (bits f 15 8))
 
 -- bits 23..17 all ones with bits 15, 14, 13 ones: power cycle
-unfoldable pub powerCycle : ℕ → Bool
+abbrev pub powerCycle : ℕ → Bool
 powerCycle f = not (isCommand f) && (eqb (bits f 23 17) 0x7F && eqb (bits f 15 13) 7)
 
 -- 4: reserved event: bits 23, 22 and 15 are 11 and 1, and it is no power cycle
-unfoldable pub reservedEvent : ℕ → Bool
+abbrev pub reservedEvent : ℕ → Bool
 reservedEvent f = not (isCommand f) && ((eqb (bits f 23 22) 3 && eqb (bit f 15) 1) && not (powerCycle f))
 
 -- a field whose bit is clear is not zero
@@ -54,7 +54,7 @@ abbrev pub notBlank : ℕ → ℕ → Bool
 notBlank announced v = eqb announced 0 && not (eqb v 0)
 
 -- 5: power event with a non-zero blank field
-unfoldable pub blankNotZero : ℕ → Bool
+abbrev pub blankNotZero : ℕ → Bool
 blankNotZero f = powerCycle f && (notBlank (bit f 12) (bits f 11 7) || notBlank (bit f 6) (bits f 5 0))
 
 -- the reader tests 1, 2, 3, 4, 5

@@ -7,7 +7,12 @@ use Rattle.frames.proofs.composer.compose_event.Tie as tie
 
 returns : tie.Need-returns
 unfolding composeOf
-returns c = simp (← c .before .before .before .source-fits .ensures, c .before .before .if1 .taken, ← c .before .event-by .ensures) (c .write .ensures)
+returns c =
+    simp (
+      ← c .before .before .before .source-fits .ensures,
+      c .before .before .if1 .taken,
+      ← c .before .event-by .ensures,
+    ) (c .write .ensures)
 
 pub compose-event-spec : {M : Type 1} → statement M
 unfolding composeOf

@@ -9,7 +9,13 @@ use Rattle.frames.proofs.reader.read_command.Tie as tie
 
 returns : tie.Need-returns
 unfolding commandOf bits
-returns c = simp (div-one, ← c .before .before .before .before .before .address-of .ensures, c .before .before .before .address .given .1, ← c .before .target-of .ensures) (c .aimed-at .ensures)
+returns c =
+    simp (
+      div-one,
+      ← c .before .before .before .before .before .address-of .ensures,
+      c .before .before .before .address .given .1,
+      ← c .before .target-of .ensures,
+    ) (c .aimed-at .ensures)
 
 pub read-command-spec : {M : Type 1} → statement M
 unfolding commandOf bits

@@ -9,11 +9,18 @@ use Rattle.frames.proofs.reader.read_event.Tie as tie
 
 returns : tie.Need-returns
 unfolding eventOf bits
-returns c = simp (div-one, ← c .before .before .before .before .scheme-of .ensures, c .before .before .scheme .given .1, ← c .first-field .ensures)
+returns c =
+    simp (
+      div-one,
+      ← c .before .before .before .before .scheme-of .ensures,
+      c .before .before .scheme .given .1,
+      ← c .first-field .ensures,
+    )
 
 returns-2 : tie.Need-returns-2
 unfolding eventOf bits
-returns-2 c = simp (← c .before .before .before .scheme-of .ensures, c .before .enum-told .given .1) (c .read-other .ensures)
+returns-2 c =
+    simp (← c .before .before .before .scheme-of .ensures, c .before .enum-told .given .1) (c .read-other .ensures)
 
 pub read-event-spec : {M : Type 1} → statement M
 read-event-spec =

@@ -9,11 +9,25 @@ use Rattle.frames.proofs.reader.read_power.Tie as tie
 
 returns-2 : tie.Need-returns-2
 unfolding powerOf bits
-returns-2 c = simp (div-one, ← c .before .before .before .before .before .before .field-of .ensures, c .before .before .before .before .g .given .1, ← c .before .before .field-of2 .ensures, c .enum-told2 .given .1)
+returns-2 c =
+    simp (
+      div-one,
+      ← c .before .before .before .before .before .before .field-of .ensures,
+      c .before .before .before .before .g .given .1,
+      ← c .before .before .field-of2 .ensures,
+      c .enum-told2 .given .1,
+    )
 
 returns-3 : tie.Need-returns-3
 unfolding powerOf bits
-returns-3 c = simp (div-one, ← c .before .before .before .before .before .before .before .field-of .ensures, c .before .before .before .before .before .g .given .1, ← c .before .before .before .field-of2 .ensures, c .before .s .given .1)
+returns-3 c =
+    simp (
+      div-one,
+      ← c .before .before .before .before .before .before .before .field-of .ensures,
+      c .before .before .before .before .before .g .given .1,
+      ← c .before .before .before .field-of2 .ensures,
+      c .before .s .given .1,
+    )
 
 pub read-power-spec : {M : Type 1} → statement M
 unfolding powerOf bits

@@ -6,10 +6,16 @@ use Rattle.frames.proofs.words.matched_with.Statement.{statement}
 use Rattle.frames.proofs.words.matched_with.Tie as tie
 
 returns : tie.Need-returns
-returns c = simp (c .before .before .before .reading .given .1, ← c .before .message-word .ensures, eq-eqb _ _ (c .if1 .taken))
+returns c =
+    simp (
+      c .before .before .before .reading .given .1,
+      ← c .before .message-word .ensures,
+      eq-eqb _ _ (c .if1 .taken),
+    )
 
 returns-2 : tie.Need-returns-2
-returns-2 c = simp (c .before .before .before .reading .given .1, ← c .before .message-word .ensures, ne-eqb _ _ (c .if1 .left))
+returns-2 c =
+    simp (c .before .before .before .reading .given .1, ← c .before .message-word .ensures, ne-eqb _ _ (c .if1 .left))
 
 pub matched-with-spec : {M : Type 1} → statement M
 matched-with-spec =

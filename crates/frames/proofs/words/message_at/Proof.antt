@@ -8,7 +8,12 @@ use Rattle.frames.proofs.words.message_at.Tie as tie
 
 returns : tie.Need-returns
 unfolding messageAt
-returns c = simp (c .before .before .before .if1 .taken, ← c .before .before .address-at .ensures, ← c .before .target-at .ensures) (c .aimed-at .ensures)
+returns c =
+    simp (
+      c .before .before .before .if1 .taken,
+      ← c .before .before .address-at .ensures,
+      ← c .before .target-at .ensures,
+    ) (c .aimed-at .ensures)
 
 pub message-at-spec : {M : Type 1} → statement M
 unfolding messageAt

@@ -5,10 +5,19 @@ use Rattle.frames.proofs.writer.frame_of.Statement.{statement}
 use Rattle.frames.proofs.writer.frame_of.Tie as tie
 
 returns : tie.Need-returns
-returns c = simp (c .before .before .before .before .message .given .1, ← c .before .before .address-byte .ensures .0, ← c .before .target-byte .ensures .0) (c .bytes-frame .ensures)
+returns c =
+    simp (
+      c .before .before .before .before .message .given .1,
+      ← c .before .before .address-byte .ensures .0,
+      ← c .before .target-byte .ensures .0,
+    ) (c .bytes-frame .ensures)
 
 returns-3 : tie.Need-returns-3
-returns-3 c = simp (c .before .before .before .message3 .given .1, ← c .before .scheme-bits .ensures .0) (c .event-frame .ensures)
+returns-3 c =
+    simp (
+      c .before .before .before .message3 .given .1,
+      ← c .before .scheme-bits .ensures .0,
+    ) (c .event-frame .ensures)
 
 pub frame-of-spec : {M : Type 1} → statement M
 frame-of-spec =

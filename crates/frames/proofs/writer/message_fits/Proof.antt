@@ -7,10 +7,14 @@ use Rattle.frames.proofs.writer.message_fits.Statement.{statement}
 use Rattle.frames.proofs.writer.message_fits.Tie as tie
 
 returns : tie.Need-returns
-returns c = let d = c .before .before .message .given in simp (d .1, lt-ltb (d .0 .1 .1 .0) 256 (omega arith)) (c .command-fits .ensures)
+returns c =
+    let d = c .before .before .message .given in
+    simp (d .1, lt-ltb (d .0 .1 .1 .0) 256 (omega arith)) (c .command-fits .ensures)
 
 returns-2 : tie.Need-returns-2
-returns-2 c = let d = c .before .message2 .given in simp (d .1, lt-ltb (d .0 .1 .0) 256 (omega arith), lt-ltb (d .0 .1 .1 .0) 256 (omega arith))
+returns-2 c =
+    let d = c .before .message2 .given in
+    simp (d .1, lt-ltb (d .0 .1 .0) 256 (omega arith), lt-ltb (d .0 .1 .1 .0) 256 (omega arith))
 
 pub message-fits-spec : {M : Type 1} → statement M
 message-fits-spec =

@@ -7,7 +7,13 @@ use Rattle.frames.proofs.writer.power_frame.Tie as tie
 
 returns : tie.Need-returns
 unfolding powerFrame
-returns c = simp (← c .before .before .before .field-present .ensures .0, ← c .before .before .field-value .ensures, ← c .before .field-present2 .ensures .0, ← c .field-value2 .ensures)
+returns c =
+    simp (
+      ← c .before .before .before .field-present .ensures .0,
+      ← c .before .before .field-value .ensures,
+      ← c .before .field-present2 .ensures .0,
+      ← c .field-value2 .ensures,
+    )
 
 pub power-frame-spec : {M : Type 1} → statement M
 power-frame-spec =
