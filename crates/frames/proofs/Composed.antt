@@ -5,7 +5,6 @@ use mathlib.Core.Bool.{Bool, true, false, _||_}
 use Prim.Native.Nat.{ℕ, _+_, _-_, _^_, _/_, _%_, _<_}
 use native.Mathlib.Omega.{arith}
 use lib.Dec.{ltb, eqb}
-use lib.Count.{trailingZeros}
 use borrow.Author.Tests.{lt-ltb, ltb-true, eqb-true}
 use Rattle.laws.specs.Bits.{bits}
 use Rattle.laws.specs.Numbers.{firstFailing}
@@ -106,7 +105,7 @@ event-by-fits e r = go (firstCarried s e) (first-below e r s)
     s = schemeAt (shippedOf (e .scheme))
 
     go : (x : Field) → Below (schemeLimit s) x → messageFits (eventWith x s e) ≡ true
-    go Field.Blank h = event-fits Scheme.TypeNumber _ _ _ (r .sort) (r .number) (r .information)
+    go Field.Blank h = event-fits Scheme.TypeNumber _ _ _ (omega arith) (omega arith) (omega arith)
     go (Field.Holds v) h = event-fits s _ _ _ h (second-below e r s) (r .information)
 
 event-written : (e : Source) → sourceFits e ≡ true → writeOf (eventBy e) ≡ Writing.Frame (frameOf (eventBy e))

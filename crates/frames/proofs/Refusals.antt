@@ -1,7 +1,7 @@
 -- Each number is given exactly if the paper's sentence says so.
 -- Assumes nothing.
-use mathlib.Core.Path.{_≡_, refl, _∙_, sym}
-use mathlib.Core.Bool.{Bool, true, false, not, _&&_, _||_}
+use mathlib.Core.Path.{_≡_, refl, _∙_}
+use mathlib.Core.Bool.{Bool, true, false, not, _&&_}
 use Prim.Native.Nat.{ℕ, _^_, _+_, _*_, _%_, _<_}
 use native.Mathlib.Omega.{arith}
 use lib.Dec.{ltb, eqb, lit≤}
@@ -16,8 +16,8 @@ use Rattle.frames.specs.Values.{targetAt, readingNumber, writingNumber}
 use Rattle.frames.specs.Read.{specialForm, addressOf, targetOf, aimed, addressed, commandOf, schemeOf, fieldOf}
 use Rattle.frames.specs.Read.{powered, powerOf, otherOf, schemed, eventOf, readOf}
 use Rattle.frames.specs.Write.{writeOf, messageFits}
-use Rattle.frames.specs.Refusals.{isCommand, tooLarge, reservedAddress, reservedAddressByte, reservedInstance}
-use Rattle.frames.specs.Refusals.{reservedInstanceByte, powerCycle, reservedEvent, notBlank, blankNotZero}
+use Rattle.frames.specs.Refusals.{reservedAddress, reservedInstance}
+use Rattle.frames.specs.Refusals.{notBlank}
 use Rattle.frames.specs.Refusals.{readerTests, ReaderNumbers, writerTests, WriterNumbers, Reserved14}
 use Rattle.frames.specs.Refusals.{Reserved59}
 use Rattle.frames.specs.declared.message.Address.{Address}

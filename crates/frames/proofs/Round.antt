@@ -4,13 +4,13 @@ use mathlib.Core.Path.{_≡_, refl, _∙_, sym, ap, subst}
 use mathlib.Core.Bool.{Bool, true, false, _&&_}
 use Prim.Native.Nat.{ℕ, _+_, _-_, _*_, _^_, _%_, _/_, _<_}
 use native.Mathlib.Omega.{arith}
-use lib.Dec.{ltb, eqb, lit≤, lit<}
+use lib.Dec.{ltb, lit≤, lit<}
 use borrow.Author.Tests.{lt-ltb, ltb-true, eqb-true}
 use Rattle.laws.specs.Choice.{if_then_else_}
 use Rattle.laws.specs.Bits.{bits, bit}
-use Rattle.laws.proofs.Tests.{if-lt, if-eq, both, and-of}
+use Rattle.laws.proofs.Tests.{if-by, if-lt, if-eq, both}
 use Rattle.laws.proofs.Bits.{above-all, above-none, cut, small, bits-is}
-use Rattle.frames.specs.Values.{targetNumber, fieldPresent, fieldValue}
+use Rattle.frames.specs.Values.{targetNumber, fieldPresent, fieldValue, writingWord}
 use Rattle.frames.specs.Read.{addressOf, targetOf, aimed, addressed, commandOf, schemeOf, firstField, fieldOf}
 use Rattle.frames.specs.Read.{powered, powerOf, otherOf, schemed, eventOf, readOf}
 use Rattle.frames.specs.Write.{addressFits, addressByte, targetByte, schemeBits, schemeLimit, eventFits}
@@ -348,8 +348,23 @@ reads-back m f e =
     let p = write-says m f e in
     ap readOf (sym (p .1)) ∙ message-read m (p .0)
 
-got-one : (m n : Message) → Reading.Got m ≡ Reading.Got n → m ≡ n
-got-one m n e = cc
+frame-below : (m : Message) → messageFits m ≡ true → frameOf m < 2 ^ 24
+unfolding readOf
+frame-below m e =
+    if-lt (λ r. r ≡ Reading.Got m → frameOf m < 2 ^ 24) (frameOf m) _ (λ h q. omega arith)
+    (λ l q. let z : _≡_ {A = ℕ} 0 1 = cc in omega arith) (message-read m e)
 
 pub one-message : OneMessage
-one-message m n f p q = got-one m n (sym (reads-back m f p) ∙ reads-back n f q)
+unfolding writeOf
+one-message m n e = if-by (λ w. writingWord (writeOf m) ≡ writingWord w → m ≡ n) (messageFits n) same other
+  where
+    word : writingWord (writeOf m) ≡ frameOf m
+    word = ap writingWord (written m (frameOf m) e refl)
+
+    same : messageFits n ≡ true → writingWord (writeOf m) ≡ frameOf n → m ≡ n
+    same g q =
+        let p : Reading.Got m ≡ Reading.Got n = sym (message-read m e) ∙ ap readOf (sym word ∙ q) ∙ message-read n g in
+        cc
+
+    other : messageFits n ≡ false → writingWord (writeOf m) ≡ 6 * 2 ^ 24 → m ≡ n
+    other g q = absurd (omega (arith, frame-below m e, sym word ∙ q))

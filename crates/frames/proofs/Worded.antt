@@ -1,9 +1,9 @@
 -- The word of a message gives the message back, and no other word does.
 -- Assumes nothing.
 use mathlib.Core.Path.{_≡_, refl, _∙_, sym, ap, subst}
-use Prim.Native.Nat.{ℕ, _+_, _-_, _*_, _^_, _<_}
+use Prim.Native.Nat.{ℕ, _+_, _*_, _^_, _<_}
 use native.Mathlib.Omega.{arith}
-use lib.Dec.{eqb, lit≤, lit<}
+use lib.Dec.{lit≤, lit<}
 use borrow.Author.Tests.{eq-eqb}
 use Rattle.laws.specs.Bits.{bits}
 use Rattle.laws.proofs.Tests.{if-eq}
@@ -11,7 +11,7 @@ use Rattle.laws.proofs.Bits.{above-all, above-none, cut, small, bits-is}
 use Rattle.frames.specs.Values.{addressKind, addressNumber, addressAt, targetKind, targetNumber, targetAt}
 use Rattle.frames.specs.Values.{schemeNumber, schemeAt, fieldPresent, fieldValue, fieldAt}
 use Rattle.frames.specs.Read.{aimed}
-use Rattle.frames.specs.Word.{sixBytes, messageKind, messageValues, wordOf, messageAt, matched, messageOf}
+use Rattle.frames.specs.Word.{sixBytes, wordOf, messageAt, matched, messageOf}
 use Rattle.frames.specs.Promises.{Held, WordGives, GivesWord, NoMessage, WordRefused}
 use Rattle.frames.specs.declared.message.Address.{Address}
 use Rattle.frames.specs.declared.message.Field.{Field}

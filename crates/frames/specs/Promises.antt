@@ -6,9 +6,9 @@ use Prim.Native.Nat.{ℕ, _^_, _<_}
 use lib.Count.{trailingZeros}
 use Rattle.laws.specs.Bits.{bit}
 use Rattle.laws.specs.Settled.{Settles}
-use Rattle.frames.specs.Values.{addressNumber, targetNumber, schemeAt, fieldValue}
+use Rattle.frames.specs.Values.{addressNumber, targetNumber, schemeAt, fieldValue, writingWord}
 use Rattle.frames.specs.Read.{readOf}
-use Rattle.frames.specs.Write.{writeOf}
+use Rattle.frames.specs.Write.{messageFits, writeOf}
 use Rattle.frames.specs.Compose.{sourceFits, shippedOf, firstCarried, secondCarried, eventBy, composeOf}
 use Rattle.frames.specs.Compose.{powerFits, powerBy, composePowerOf}
 use Rattle.frames.specs.Word.{wordOf, messageOf}
@@ -27,9 +27,9 @@ WritesBack = (f : ℕ) (m : Message) → readOf f ≡ Reading.Got m → writeOf 
 abbrev pub ReadsBack : Type 0
 ReadsBack = (m : Message) (f : ℕ) → writeOf m ≡ Writing.Frame f → readOf f ≡ Reading.Got m
 
--- no two messages that write give one frame
+-- no two messages that write give one frame, and no refusal's number is a frame
 abbrev pub OneMessage : Type 0
-OneMessage = (m n : Message) (f : ℕ) → writeOf m ≡ Writing.Frame f → writeOf n ≡ Writing.Frame f → m ≡ n
+OneMessage = (m n : Message) → messageFits m ≡ true → writingWord (writeOf m) ≡ writingWord (writeOf n) → m ≡ n
 
 -- what is composed in range is a frame, never a refusal, and reads back as the event of its scheme
 abbrev pub Composes : Type 0
