@@ -1,20 +1,23 @@
--- When each number is given: paper 01, "Refusal numbers". Proved in proofs/Refusals.antt.
+-- When each number is given: paper 01, "Refusal numbers".
+-- Proved in proofs/: Refusals (reader, writer), Composed (composers) and Exactly.
 -- Assumes nothing.
 use mathlib.Core.Path.{_≡_}
 use mathlib.Core.Bool.{Bool, not, _&&_, _||_}
 use mathlib.Core.List.{List, [], _∷_}
-use Prim.Native.Nat.{ℕ}
+use Prim.Native.Nat.{ℕ, _<_}
 use lib.Dec.{ltb, eqb}
 use Rattle.laws.specs.Bits.{bits, bit}
 use Rattle.laws.specs.Counts.{below, count}
-use Rattle.laws.specs.Numbers.{Test, test, firstFailing}
+use Rattle.laws.specs.Numbers.{Test, test, firstFailing, Given}
 use Rattle.frames.specs.Kind.{kindOf}
 use Rattle.frames.specs.Values.{readingNumber, writingNumber}
 use Rattle.frames.specs.Read.{shortForm, groupForm, specialForm, readOf}
 use Rattle.frames.specs.Write.{messageFits, writeOf}
 use Rattle.frames.specs.Compose.{sourceFits, composeOf, powerFits, composePowerOf}
 use Rattle.frames.specs.declared.message.Message.{Message}
+use Rattle.frames.specs.declared.message.Reading.{Reading}
 use Rattle.frames.specs.declared.message.Source.{Source}
+use Rattle.frames.specs.declared.message.Writing.{Writing}
 
 -- bit 16 set means command, clear means event
 abbrev pub isCommand : ℕ → Bool
@@ -88,6 +91,19 @@ powerTests short groups = test 6 (powerFits short groups) ∷ []
 
 abbrev pub PowerNumbers : Type 0
 PowerNumbers = (short groups : ℕ) → writingNumber (composePowerOf short groups) ≡ firstFailing (powerTests short groups)
+
+-- so each number is given exactly if every test before its own passes and its own fails
+abbrev pub ReadingExactly : Reading → List Test → Type 0
+ReadingExactly r ts = (n : ℕ) → 0 < n → (r ≡ Reading.Refused n → Given ts n) × (Given ts n → r ≡ Reading.Refused n)
+
+abbrev pub WritingExactly : Writing → List Test → Type 0
+WritingExactly w ts = (n : ℕ) → 0 < n → (w ≡ Writing.Refused n → Given ts n) × (Given ts n → w ≡ Writing.Refused n)
+
+pub record Exactly : Type 0 where
+  pub read : (f : ℕ) → ReadingExactly (readOf f) (readerTests f)
+  pub write : (m : Message) → WritingExactly (writeOf m) (writerTests m)
+  pub compose-event : (e : Source) → WritingExactly (composeOf e) (composerTests e)
+  pub compose-power : (short groups : ℕ) → WritingExactly (composePowerOf short groups) (powerTests short groups)
 
 -- the other 14 odd bytes are reserved
 abbrev pub Reserved14 : Type 0

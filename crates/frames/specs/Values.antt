@@ -11,7 +11,9 @@ use Rattle.frames.specs.declared.message.Target.{Target}
 use Rattle.frames.specs.declared.message.Targeted.{Targeted}
 use Rattle.frames.specs.declared.message.Writing.{Writing}
 
--- what has no number has 0
+-- Kinds are numbered in the order of the cases. What has no number has 0.
+-- Back from a number: one that no case has falls to the last case, and `matched` of Word.antt refuses it.
+
 abbrev pub addressKind : Address → ℕ
 addressKind (Address.Short n) = 0
 addressKind (Address.Group n) = 1
