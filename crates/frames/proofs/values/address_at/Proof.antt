@@ -1,0 +1,15 @@
+-- `frames::values::address_at` meets its contract.
+-- Assumes nothing.
+use Rattle.frames.proofs.values.address_at.Statement.{statement}
+use Rattle.frames.specs.Values.{addressAt}
+use borrow.Author.Needs.{needs}
+use Rattle.laws.proofs.Tests.{tests}
+use Rattle.frames.proofs.values.address_at.Tie as tie
+
+pub address-at-spec : {M : Type 1} → statement M
+unfolding addressAt
+address-at-spec = tie.close (tie.spec
+    (λ c. search (needs, tests))
+    (λ c. simp (c .match .keys2))
+    (λ c. simp (c .match .keys3))
+    (λ c. search (needs, tests)))
