@@ -6,3 +6,5 @@ pub mod Items
 pub mod Parts
 pub mod Numbers
 pub mod Settled
+pub mod Sides
+pub mod Members
