@@ -8,3 +8,4 @@ pub mod Numbers
 pub mod Settled
 pub mod Sides
 pub mod Members
+pub mod Joined
