@@ -101,15 +101,16 @@ look-shows map store bank location e = go (beginner (recordsOf map) bank locatio
     go (At r) q =
         let b = beginner-at (recordsOf map) bank location r q in
         let k = holder-at bank location (recordsOf map) r (b .0) in
-        let place : lookOf map store bank location ≡ placeOf (At r) = look-sound map store bank location sound ∙ ap placeOf q in
-        (r,
+        let place : lookOf map store bank location ≡ placeOf (At r) = look-sound map store bank location sound ∙ ap placeOf q in (
+          r,
           record {
             member = k .0;
             its-bank = holds-is r bank location (k .1) .same-bank;
             begins = b .1;
             place = place;
             bytes = rw place;
-          })
+          },
+        )
     go Nothing q = absurd (omega (arith, sym e ∙ sound-number map store bank location sound ∙ ap (λ (f : Found). if isFound f then 0 else 14) q))
 
 -- a value has at least one byte
