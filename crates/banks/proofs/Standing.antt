@@ -51,7 +51,7 @@ stands map store kept e =
       heads = banks .1;
     }
 
-is-standing : (map store : List ℕ) (kept : ℕ) → Stands map store kept → checkNumber map store kept ≡ 0
+pub is-standing : (map store : List ℕ) (kept : ℕ) → Stands map store kept → checkNumber map store kept ≡ 0
 unfolding checkNumber ordered placed
 is-standing map store kept s =
     let rs = recordsOf map in
