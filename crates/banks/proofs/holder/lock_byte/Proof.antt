@@ -10,11 +10,17 @@ use Rattle.banks.proofs.holder.lock_byte.Statement.{statement}
 use Rattle.banks.proofs.holder.lock_byte.Tie as tie
 
 shared-slice-read-result : tie.Need-shared-slice-read-result
-shared-slice-read-result c = omega (arith, holder-within _ _ _ _ (c .before .before .before .before .before .before .before .before .pre) _ (sym (c .before .before .before .before .before .lookup .ensures) ∙ c .before .before .before .r .given .1))
+shared-slice-read-result c =
+    omega (
+      arith,
+      holder-within _ _ _ _ (c .before .before .before .before .before .before .before .before .pre) _
+          (sym (c .before .before .before .before .before .lookup .ensures) ∙ c .before .before .before .r .given .1),
+    )
 
 returns : tie.Need-returns
 unfolding lockByte byteAt
-returns c = rw (sym (c .before .before .before .before .before .lookup .ensures) ∙ c .before .before .before .r .given .1)
+returns c =
+    rw (sym (c .before .before .before .before .before .lookup .ensures) ∙ c .before .before .before .r .given .1)
 
 pub lock-byte-spec : {M : Type 1} → statement M
 unfolding lockByte byteAt

@@ -12,7 +12,8 @@ use Rattle.banks.proofs.holder.lookup.Statement.{statement}
 use Rattle.banks.proofs.holder.lookup.Tie as tie
 
 abbrev Inv-loop : tie.InvT-loop
-Inv-loop map bank location n i₀ i = (n ≡ length map / 8) × (holder (recordsOf map) bank location ≡ holder (from map n i) bank location)
+Inv-loop map bank location n i₀ i =
+    (n ≡ length map / 8) × (holder (recordsOf map) bank location ≡ holder (from map n i) bank location)
 
 loop-again : tie.Need-loop-again Inv-loop (λ map bank location n i₀ i. n - i)
 loop-again c = (

@@ -1,6 +1,5 @@
 -- `banks::looked::look` meets its contract.
 -- Assumes nothing.
-use native.Mathlib.Omega.{arith}
 use native.Mathlib.Nat.{add-sub-cancel-left}
 use Rattle.laws.specs.Parts.{part}
 use Rattle.banks.specs.Look.{lookBytes}
@@ -11,7 +10,12 @@ use Rattle.banks.proofs.looked.look.Tie as tie
 
 returns : tie.Need-returns
 unfolding lookBytes part
-returns c = rw (← c .before .before .before .look-at .ensures, add-sub-cancel-left (c .before .before .before .look-at .result .offset) (c .before .before .before .look-at .result .width))
+returns c =
+    rw (
+      ← c .before .before .before .look-at .ensures,
+      add-sub-cancel-left
+          (c .before .before .before .look-at .result .offset) (c .before .before .before .look-at .result .width),
+    )
 
 pub look-spec : {M : Type 1} → statement M
 look-spec =

@@ -9,11 +9,14 @@ use Rattle.banks.proofs.looked.look_at.Statement.{statement}
 use Rattle.banks.proofs.looked.look_at.Tie as tie
 
 returns : tie.Need-returns
-returns c = c .refused .ensures ∙ sym (look-refused _ _ _ _ _ (c .before .if1 .taken) (sym (c .before .before .check-number .ensures)))
+returns c =
+    c .refused .ensures ∙ sym (look-refused _ _ _ _ _ (c .before .if1 .taken)
+    (sym (c .before .before .check-number .ensures)))
 
 returns-2 : tie.Need-returns-2
 unfolding beginner
-returns-2 c = cc (look-sound _ _ _ _ (sym (c .before .before .before .check-number .ensures) ∙ c .before .before .if1 .left))
+returns-2 c =
+    cc (look-sound _ _ _ _ (sym (c .before .before .before .check-number .ensures) ∙ c .before .before .if1 .left))
 
 pub look-at-spec : {M : Type 1} → statement M
 look-at-spec =

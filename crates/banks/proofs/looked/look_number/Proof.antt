@@ -1,6 +1,5 @@
 -- `banks::looked::look_number` meets its contract.
 -- Assumes nothing.
-use mathlib.Core.Path.{sym, _∙_}
 use Rattle.banks.proofs.Looks.{look-number-is}
 use borrow.Author.Needs.{needs}
 use Rattle.banks.proofs.looked.look_number.Statement.{statement}

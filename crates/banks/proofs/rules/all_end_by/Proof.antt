@@ -13,7 +13,9 @@ use Rattle.banks.proofs.rules.all_end_by.Statement.{statement}
 use Rattle.banks.proofs.rules.all_end_by.Tie as tie
 
 abbrev Inv-loop : tie.InvT-loop
-Inv-loop map bank location n i₀ i = (n ≡ length map / 8) × (every (endsBy bank location) (recordsOf map) ≡ every (endsBy bank location) (from map n i))
+Inv-loop map bank location n i₀ i =
+    (n ≡ length map / 8) × (every (endsBy bank location) (recordsOf map) ≡ every (endsBy bank location)
+    (from map n i))
 
 loop-again : tie.Need-loop-again Inv-loop (λ map bank location n i₀ i. n - i)
 loop-again c = (

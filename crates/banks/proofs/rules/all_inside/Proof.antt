@@ -13,7 +13,8 @@ use Rattle.banks.proofs.rules.all_inside.Statement.{statement}
 use Rattle.banks.proofs.rules.all_inside.Tie as tie
 
 abbrev Inv-loop : tie.InvT-loop
-Inv-loop map n count i₀ i = (count ≡ length map / 8) × (every (inside n) (recordsOf map) ≡ every (inside n) (from map count i))
+Inv-loop map n count i₀ i =
+    (count ≡ length map / 8) × (every (inside n) (recordsOf map) ≡ every (inside n) (from map count i))
 
 loop-again : tie.Need-loop-again Inv-loop (λ map n count i₀ i. count - i)
 loop-again c = (

@@ -17,13 +17,15 @@ Inv-loop map n i₀ i = (n ≡ length map / 8) × (disjoint (recordsOf map) ≡ 
 loop-again : tie.Need-loop-again Inv-loop (λ map n i₀ i. n - i)
 loop-again c = (
   c .before .before .before .before .loop .inv .0,
-  disjoint-goes-on _ (c .before .before .before .before .loop .inv .0) (c .before .before .before .before .loop .inv .1) (c .before .before .before .loop-test .taken)
+  disjoint-goes-on _ (c .before .before .before .before .loop .inv .0)
+      (c .before .before .before .before .loop .inv .1) (c .before .before .before .loop-test .taken)
       (c .before .before .record-at .ensures) (c .before .is-clear-of .ensures) (c .if1 .left),
 )
 
 returns : tie.Need-returns Inv-loop (λ map n i₀ i. n - i)
 returns c =
-    disjoint-stops _ (c .before .before .before .before .loop .inv .0) (c .before .before .before .before .loop .inv .1) (c .before .before .before .loop-test .taken)
+    disjoint-stops _ (c .before .before .before .before .loop .inv .0)
+    (c .before .before .before .before .loop .inv .1) (c .before .before .before .loop-test .taken)
     (c .before .before .record-at .ensures) (c .before .is-clear-of .ensures) (c .if1 .taken)
 
 pub are-disjoint-spec : {M : Type 1} → statement M

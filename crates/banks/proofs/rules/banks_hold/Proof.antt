@@ -13,7 +13,8 @@ use Rattle.banks.proofs.rules.banks_hold.Statement.{statement}
 use Rattle.banks.proofs.rules.banks_hold.Tie as tie
 
 abbrev Inv-loop : tie.InvT-loop
-Inv-loop map n i₀ i = (n ≡ length map / 8) × (banksHold (recordsOf map) ≡ every (bankHolds (recordsOf map)) (from map n i))
+Inv-loop map n i₀ i =
+    (n ≡ length map / 8) × (banksHold (recordsOf map) ≡ every (bankHolds (recordsOf map)) (from map n i))
 
 loop-again : tie.Need-loop-again Inv-loop (λ map n i₀ i. n - i)
 loop-again c = (

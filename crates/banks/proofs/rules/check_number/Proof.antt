@@ -1,4 +1,5 @@
--- `banks::rules::check_number` meets its contract. At each test `e₁`, `e₂`, .. are what was known after the tests before.
+-- `banks::rules::check_number` meets its contract. At each test `e₁`, `e₂`, .. are what was known after the tests
+-- before.
 -- Assumes nothing.
 use borrow.Author.Needs.{needs}
 use Rattle.laws.specs.Numbers.{firstFailing}

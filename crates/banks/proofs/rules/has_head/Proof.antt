@@ -8,10 +8,14 @@ use Rattle.banks.proofs.rules.has_head.Statement.{statement}
 use Rattle.banks.proofs.rules.has_head.Tie as tie
 
 returns : tie.Need-returns
-returns c = c .is-head .ensures ∙ sym (has-at isHead 0x00 single-head _ _ (c .before .before .before .before .before .before .pre) _ (sym (c .before .before .before .before .lookup .ensures) ∙ c .before .before .r .given .1))
+returns c =
+    c .is-head .ensures ∙ sym (has-at isHead 0x00 single-head _ _
+    (c .before .before .before .before .before .before .pre) _
+    (sym (c .before .before .before .before .lookup .ensures) ∙ c .before .before .r .given .1))
 
 returns-2 : tie.Need-returns-2
-returns-2 c = sym (has-none isHead 0x00 single-head _ _ (sym (c .before .before .lookup .ensures) ∙ c .enum-told .given .1))
+returns-2 c =
+    sym (has-none isHead 0x00 single-head _ _ (sym (c .before .before .lookup .ensures) ∙ c .enum-told .given .1))
 
 pub has-head-spec : {M : Type 1} → statement M
 has-head-spec =

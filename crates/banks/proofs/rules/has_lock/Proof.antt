@@ -8,10 +8,14 @@ use Rattle.banks.proofs.rules.has_lock.Statement.{statement}
 use Rattle.banks.proofs.rules.has_lock.Tie as tie
 
 returns : tie.Need-returns
-returns c = c .is-lock .ensures ∙ sym (has-at isLock 0x02 single-lock _ _ (c .before .before .before .before .before .before .pre) _ (sym (c .before .before .before .before .lookup .ensures) ∙ c .before .before .r .given .1))
+returns c =
+    c .is-lock .ensures ∙ sym (has-at isLock 0x02 single-lock _ _
+    (c .before .before .before .before .before .before .pre) _
+    (sym (c .before .before .before .before .lookup .ensures) ∙ c .before .before .r .given .1))
 
 returns-2 : tie.Need-returns-2
-returns-2 c = sym (has-none isLock 0x02 single-lock _ _ (sym (c .before .before .lookup .ensures) ∙ c .enum-told .given .1))
+returns-2 c =
+    sym (has-none isLock 0x02 single-lock _ _ (sym (c .before .before .lookup .ensures) ∙ c .enum-told .given .1))
 
 pub has-lock-spec : {M : Type 1} → statement M
 has-lock-spec =

@@ -14,7 +14,9 @@ use Rattle.banks.proofs.rules.head_bytes_hold.Statement.{statement}
 use Rattle.banks.proofs.rules.head_bytes_hold.Tie as tie
 
 abbrev Inv-loop : tie.InvT-loop
-Inv-loop map store n i₀ i = (n ≡ length map / 8) × (headBytesHold (recordsOf map) store ≡ every (headHolds (recordsOf map) store) (from map n i))
+Inv-loop map store n i₀ i =
+    (n ≡ length map / 8) × (headBytesHold (recordsOf map) store ≡ every (headHolds (recordsOf map) store)
+    (from map n i))
 
 loop-again : tie.Need-loop-again Inv-loop (λ map store n i₀ i. n - i)
 loop-again c = (

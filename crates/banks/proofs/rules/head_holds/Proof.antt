@@ -9,11 +9,18 @@ use Rattle.banks.proofs.rules.head_holds.Statement.{statement}
 use Rattle.banks.proofs.rules.head_holds.Tie as tie
 
 shared-slice-read-head-byte-holds : tie.Need-shared-slice-read-head-byte-holds
-shared-slice-read-head-byte-holds c = omega (arith, single-head (c .before .before .before .before .before .before .args .r) (sym (c .before .before .before .is-head .ensures) ∙ c .before .before .if1 .taken))
+shared-slice-read-head-byte-holds c =
+    omega (
+      arith,
+      single-head (c .before .before .before .before .before .before .args .r)
+          (sym (c .before .before .before .is-head .ensures) ∙ c .before .before .if1 .taken),
+    )
 
 returns : tie.Need-returns
 unfolding headHolds
-returns c = rw (sym (c .before .before .before .before .is-head .ensures) ∙ c .before .before .before .if1 .taken) (c .head-byte-holds .ensures)
+returns c =
+    rw (sym (c .before .before .before .before .is-head .ensures) ∙ c .before .before .before .if1 .taken)
+    (c .head-byte-holds .ensures)
 
 pub head-holds-spec : {M : Type 1} → statement M
 unfolding headHolds

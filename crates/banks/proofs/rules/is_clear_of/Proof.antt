@@ -12,7 +12,8 @@ use Rattle.banks.proofs.rules.is_clear_of.Statement.{statement}
 use Rattle.banks.proofs.rules.is_clear_of.Tie as tie
 
 abbrev Inv-loop : tie.InvT-loop
-Inv-loop map p start n i₀ i = (n ≡ length map / 8) × (every (clear p) (from map (length map / 8) start) ≡ every (clear p) (from map n i))
+Inv-loop map p start n i₀ i =
+    (n ≡ length map / 8) × (every (clear p) (from map (length map / 8) start) ≡ every (clear p) (from map n i))
 
 loop-again : tie.Need-loop-again Inv-loop (λ map p start n i₀ i. n - i)
 loop-again c = (
