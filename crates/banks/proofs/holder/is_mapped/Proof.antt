@@ -3,7 +3,6 @@
 use Prim.Native.Nat.{_-_, _/_}
 use mathlib.Core.Path.{_≡_}
 use native.Mathlib.Omega.{arith}
-use borrow.Author.Needs.{needs}
 use lib.ListN.{length}
 use Rattle.banks.specs.Map.{recordsOf, mapped}
 use Rattle.banks.proofs.Walk.{from, at-start, at-end, mapped-stops, mapped-goes-on}
@@ -31,7 +30,7 @@ is-mapped-spec =
     (tie.spec
     Inv-loop
     (λ map bank n i₀ i. n - i)
-    (λ c κs. search needs)
+    (λ c κs. tt)
     (λ c. (c .records .ensures, rw (at-start _ _ (c .records .ensures))))
     (λ c κs. omega arith)
     returns

@@ -4,7 +4,6 @@ use mathlib.Core.Path.{sym, _∙_}
 use Rattle.banks.specs.Lookup.{beginner}
 use Rattle.banks.proofs.Standing.{stands}
 use Rattle.banks.proofs.Looks.{look-refused, look-sound}
-use borrow.Author.Needs.{needs}
 use Rattle.banks.proofs.looked.look_at.Statement.{statement}
 use Rattle.banks.proofs.looked.look_at.Tie as tie
 
@@ -16,15 +15,16 @@ returns c =
 returns-2 : tie.Need-returns-2
 unfolding beginner
 returns-2 c =
-    cc (look-sound _ _ _ _ (sym (c .before .before .before .check-number .ensures) ∙ c .before .before .if1 .left))
+    rw (c .place-of .ensures, c .before .lookup .ensures)
+    (sym (look-sound _ _ _ _ (sym (c .before .before .before .check-number .ensures) ∙ c .before .before .if1 .left)))
 
 pub look-at-spec : {M : Type 1} → statement M
 look-at-spec =
     tie.close
     (tie.spec
-    (λ c κs. search needs)
-    (λ c κs. search needs)
+    (λ c κs. tt)
+    (λ c κs. tt)
     returns
     (λ c κs. stands _ _ _ (sym (c .before .check-number .ensures) ∙ c .if1 .left) .in-order)
-    (λ c κs. search needs)
+    (λ c κs. tt)
     returns-2)

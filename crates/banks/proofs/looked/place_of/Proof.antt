@@ -20,5 +20,5 @@ place-of-spec = tie.close (tie.spec
     (λ c. search needs)
     (λ c. rw (c .before .before .before .found .given .1, eq-eqb _ _ (c .if1 .taken)))
     (λ c. search needs)
-    (λ c κs. search needs)
+    (λ c κs. tt)
     returns-2)

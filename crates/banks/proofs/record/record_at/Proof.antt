@@ -26,5 +26,5 @@ record-at-spec =
     (λ c. search needs)
     (λ c. search needs)
     (λ c. search needs)
-    (λ c κs. search needs)
-    (λ c. cc))
+    (λ c κs. tt)
+    (λ c. rw (c .word .ensures)))

@@ -3,7 +3,6 @@
 use Prim.Native.Nat.{_-_, _/_}
 use mathlib.Core.Path.{_≡_, ap}
 use native.Mathlib.Omega.{arith}
-use borrow.Author.Needs.{needs}
 use lib.ListN.{length}
 use Rattle.laws.specs.Lists.{every}
 use Rattle.banks.specs.Map.{recordsOf}
@@ -35,10 +34,10 @@ all-end-by-spec =
     (tie.spec
     Inv-loop
     (λ map bank location n i₀ i. n - i)
-    (λ c κs. search needs)
+    (λ c κs. tt)
     (λ c. (c .records .ensures, ap (every _) (at-start _ _ (c .records .ensures))))
     (λ c κs. omega arith)
-    (λ c κs. search needs)
+    (λ c κs. tt)
     returns
     (λ c. omega arith)
     (λ c. omega arith)

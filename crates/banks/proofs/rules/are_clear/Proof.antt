@@ -8,8 +8,8 @@ pub are-clear-spec : {M : Type 1} → statement M
 are-clear-spec =
     tie.close
     (tie.spec
-    (λ c κs. search needs)
-    (λ c κs. search needs)
+    (λ c κs. tt)
+    (λ c κs. tt)
     (λ c. search needs)
     (λ c. search needs)
-    (λ c. cc))
+    (λ c. rw (c .before .before .places-end2 .ensures, c .before .before .before .places-end .ensures)))

@@ -3,7 +3,6 @@
 use Prim.Native.Nat.{_-_, _/_}
 use mathlib.Core.Path.{_≡_, ap}
 use native.Mathlib.Omega.{arith}
-use borrow.Author.Needs.{needs}
 use lib.ListN.{length}
 use Rattle.banks.specs.Map.{recordsOf}
 use Rattle.banks.specs.Rules.{disjoint}
@@ -34,11 +33,11 @@ are-disjoint-spec =
     (tie.spec
     Inv-loop
     (λ map n i₀ i. n - i)
-    (λ c κs. search needs)
+    (λ c κs. tt)
     (λ c. (c .records .ensures, ap disjoint (at-start _ _ (c .records .ensures))))
     (λ c κs. omega arith)
     (λ c. omega arith)
-    (λ c κs. search needs)
+    (λ c κs. tt)
     returns
     (λ c. omega arith)
     (λ c. omega arith)

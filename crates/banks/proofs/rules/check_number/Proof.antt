@@ -1,7 +1,6 @@
 -- `banks::rules::check_number` meets its contract. At each test `e₁`, `e₂`, .. are what was known after the tests
 -- before.
 -- Assumes nothing.
-use borrow.Author.Needs.{needs}
 use Rattle.laws.specs.Numbers.{firstFailing}
 use Rattle.laws.proofs.Sides.{failed, passed}
 use Rattle.banks.specs.Rules.{checkNumber}
@@ -124,13 +123,13 @@ pub check-number-spec : {M : Type 1} → statement M
 check-number-spec =
     tie.close
     (tie.spec
-    (λ c κs. search needs)
+    (λ c κs. tt)
     returns
-    (λ c κs. search needs)
+    (λ c κs. tt)
     returns-2
-    (λ c κs. search needs)
+    (λ c κs. tt)
     returns-3
-    (λ c κs. search needs)
+    (λ c κs. tt)
     returns-4
     banks-hold-requires
     returns-5

@@ -6,6 +6,6 @@ use Rattle.banks.proofs.rules.ends_by.Tie as tie
 
 pub ends-by-spec : {M : Type 1} → statement M
 ends-by-spec = tie.close (tie.spec
-    (λ c κs. search needs)
+    (λ c κs. tt)
     (λ c. search needs)
-    (λ c. cc))
+    (λ c. rw (c .before .locations-end .ensures)))

@@ -7,7 +7,7 @@ use Rattle.banks.proofs.rules.fields_hold.Tie as tie
 pub fields-hold-spec : {M : Type 1} → statement M
 fields-hold-spec =
     tie.close (tie.spec
-    (λ c κs. search needs)
-    (λ c κs. search needs)
+    (λ c κs. tt)
+    (λ c κs. tt)
     (λ c. search needs)
-    (λ c. cc))
+    (λ c. rw (c .before .before .before .lockable-holds .ensures, c .before .before .before .before .locations-end .ensures)))

@@ -3,7 +3,6 @@
 use Prim.Native.Nat.{_-_, _/_}
 use mathlib.Core.Path.{_≡_, ap}
 use native.Mathlib.Omega.{arith}
-use borrow.Author.Needs.{needs}
 use lib.ListN.{length}
 use Rattle.laws.specs.Lists.{every}
 use Rattle.banks.specs.Map.{recordsOf}
@@ -37,7 +36,7 @@ head-bytes-hold-spec =
     (tie.spec
     Inv-loop
     (λ map store n i₀ i. n - i)
-    (λ c κs. search needs)
+    (λ c κs. tt)
     (λ c. (c .records .ensures, ap (every _) (at-start _ _ (c .records .ensures))))
     (λ c κs. omega arith)
     (λ c κs.

@@ -27,9 +27,9 @@ unfolding headHolds
 head-holds-spec =
     tie.close
     (tie.spec
-    (λ c κs. search needs)
+    (λ c κs. tt)
     (λ c. search needs)
     shared-slice-read-head-byte-holds
-    (λ c κs. search needs)
+    (λ c κs. tt)
     returns
     (λ c. rw (sym (c .before .is-head .ensures) ∙ c .if1 .left)))

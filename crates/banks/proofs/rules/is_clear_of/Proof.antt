@@ -3,7 +3,6 @@
 use Prim.Native.Nat.{_-_, _/_}
 use mathlib.Core.Path.{_≡_}
 use native.Mathlib.Omega.{arith}
-use borrow.Author.Needs.{needs}
 use lib.ListN.{length}
 use Rattle.laws.specs.Lists.{every}
 use Rattle.banks.specs.Rules.{clear}
@@ -33,10 +32,10 @@ is-clear-of-spec =
     (tie.spec
     Inv-loop
     (λ map p start n i₀ i. n - i)
-    (λ c κs. search needs)
+    (λ c κs. tt)
     (λ c. (c .records .ensures, rw (c .records .ensures)))
     (λ c κs. omega arith)
-    (λ c κs. search needs)
+    (λ c κs. tt)
     returns
     (λ c. omega arith)
     (λ c. omega arith)

@@ -3,7 +3,6 @@
 use Prim.Native.Nat.{_-_, _/_}
 use mathlib.Core.Path.{_≡_}
 use native.Mathlib.Omega.{arith}
-use borrow.Author.Needs.{needs}
 use lib.ListN.{length}
 use Rattle.banks.specs.Map.{recordsOf}
 use Rattle.banks.specs.Rules.{risingFrom, rising}
@@ -37,12 +36,12 @@ is-rising-spec =
     (tie.spec
     Inv-loop
     (λ map n last₀ i₀ last i. n - i)
-    (λ c κs. search needs)
+    (λ c κs. tt)
     (λ c. rising-none _ _ (c .before .records .ensures) (c .if1 .taken))
     (λ c κs. omega arith)
     loop-holds
     (λ c κs. omega arith)
-    (λ c κs. search needs)
+    (λ c κs. tt)
     returns-2
     (λ c. omega arith)
     (λ c. omega arith)

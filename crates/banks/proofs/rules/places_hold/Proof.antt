@@ -1,7 +1,6 @@
 -- `banks::rules::places_hold` meets its contract.
 -- Assumes nothing.
 use Rattle.banks.specs.Rules.{placesHold}
-use borrow.Author.Needs.{needs}
 use Rattle.banks.proofs.rules.places_hold.Statement.{statement}
 use Rattle.banks.proofs.rules.places_hold.Tie as tie
 
@@ -9,7 +8,7 @@ pub places-hold-spec : {M : Type 1} → statement M
 unfolding placesHold
 places-hold-spec =
     tie.close (tie.spec
-    (λ c κs. search needs)
-    (λ c κs. search needs)
-    (λ c κs. search needs)
-    (λ c. cc))
+    (λ c κs. tt)
+    (λ c κs. tt)
+    (λ c κs. tt)
+    (λ c. rw (c .are-disjoint .ensures, c .before .all-inside .ensures, c .before .before .lengths-hold .ensures)))

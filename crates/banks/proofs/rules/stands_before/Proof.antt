@@ -6,6 +6,6 @@ use Rattle.banks.proofs.rules.stands_before.Tie as tie
 
 pub stands-before-spec : {M : Type 1} → statement M
 stands-before-spec = tie.close (tie.spec
-    (λ c κs. search needs)
+    (λ c κs. tt)
     (λ c. search needs)
-    (λ c. cc))
+    (λ c. rw (c .before .before .before .before .before .locations-end .ensures)))
