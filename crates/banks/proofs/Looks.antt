@@ -2,11 +2,12 @@
 -- Assumes nothing.
 use mathlib.Core.Path.{_≡_, refl, ap, sym, _∙_}
 use mathlib.Core.List.{List, [], _∷_}
-use Prim.Native.Nat.{ℕ, zero, suc, _+_, _≤_, _<_}
+use Prim.Native.Nat.{ℕ, zero, suc, _+_, _-_, _≤_, _<_}
 use native.Mathlib.Omega.{arith}
+use native.Mathlib.Nat.{add-sub-cancel-left}
 use borrow.Author.Tests.{ne-eqb}
 use lib.Dec.{eqb}
-use lib.ListN.{length}
+use lib.ListN.{length, take, drop}
 use Rattle.laws.specs.Choice.{if_then_else_}
 use Rattle.laws.specs.Numbers.{test, firstFailing}
 use Rattle.laws.specs.Parts.{part}
@@ -23,6 +24,7 @@ use Rattle.banks.specs.Promises.{LookNumbers, LookShows, LookEmpty, Look
 use Rattle.banks.specs.declared.record.Record.{Record}
 use Rattle.banks.specs.declared.holder.Found.{Found}
 use Rattle.banks.specs.declared.holder.Found.the-variants.{At, Nothing}
+use Rattle.banks.specs.declared.looked.Looked.{Looked}
 use Rattle.banks.proofs.Members.{member-fields, member-inside}
 use Rattle.banks.proofs.Locations.{holds-is, holder-at, holder-within, beginner-at}
 use Rattle.banks.proofs.Standing.{stands}
@@ -87,6 +89,14 @@ module _ (map store : List ℕ) (bank location : ℕ) where
           → lookOf map store bank location .offset + lookOf map store bank location .width ≤ length store
       go zero e = rw (look-sound e) (of-found e (beginner (recordsOf map) bank location) refl)
       go (suc n) e = rw (look-refused (suc n) (omega arith) e) (omega arith)
+
+  -- the part that a call hands out is that place's bytes
+  pub look-part : (r : Looked) → r ≡ lookOf map store bank location
+      → take (r .offset + r .width - r .offset) (drop (r .offset) store) ≡ lookBytes map store bank location
+  unfolding lookBytes part
+  look-part r e =
+      ap (λ (n : ℕ). take n (drop (r .offset) store)) (add-sub-cancel-left (r .offset) (r .width))
+      ∙ ap (λ (l : Looked). take (l .width) (drop (l .offset) store)) e
 
   -- a look with number 0 passed 7 to 11
   pub look-checked : lookNumber map store bank location ≡ 0 → checkNumber map store (length store) ≡ 0
