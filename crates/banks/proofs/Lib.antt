@@ -1,0 +1,8 @@
+pub mod Walk
+pub mod Members
+pub mod Locations
+pub mod HeadsAndLocks
+pub mod Standing
+pub mod Looks
+pub mod Values
+pub mod Cases
