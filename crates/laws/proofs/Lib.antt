@@ -6,3 +6,4 @@ pub mod Items
 pub mod Parts
 pub mod Numbers
 pub mod Settled
+pub mod Powers
