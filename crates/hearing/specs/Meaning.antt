@@ -42,11 +42,10 @@ abbrev pub listed : List Row → ℕ → Meaning
 listed [] n = NotObeyed
 listed (r ∷ rs) n = if eqb n (r .code) then r .means else listed rs n
 
--- with instance byte 0xFE, by opcode
-unfoldable pub deviceCommand : ℕ → Meaning
-deviceCommand opcode =
-    listed
-    (row 0x11 (NeedsPair ResetMemoryBank)
+-- with instance byte 0xFE, by opcode: these seven need a pair, the others do not
+abbrev pub deviceRows : List Row
+deviceRows =
+    row 0x11 (NeedsPair ResetMemoryBank)
     ∷ row 0x14 (NeedsPair SetShortAddress)
     ∷ row 0x15 (NeedsPair EnableWriteMemory)
     ∷ row 0x19 (NeedsPair (AddToDeviceGroups 0))
@@ -62,32 +61,37 @@ deviceCommand opcode =
     ∷ row 0x42 (AtOnce (QueryDeviceGroups 1))
     ∷ row 0x43 (AtOnce (QueryDeviceGroups 2))
     ∷ row 0x44 (AtOnce (QueryDeviceGroups 3))
-    ∷ [])
-    opcode
+    ∷ []
 
--- 0xC1, by its first free byte: the writes, and DTR0, 1, 2
-unfoldable pub firstSpecial : ℕ → ℕ → Meaning
-firstSpecial first second =
-    listed
-    (row 0x20 (AtOnce (WriteMemoryLocation second true))
+unfoldable pub deviceCommand : ℕ → Meaning
+deviceCommand opcode = listed deviceRows opcode
+
+-- 0xC1, by its first free byte: 0x20 WRITE MEMORY LOCATION, 0x21 the same without reply, 0x30, 0x31, 0x32 DTR0, 1, 2
+abbrev pub firstRows : ℕ → List Row
+firstRows second =
+    row 0x20 (AtOnce (WriteMemoryLocation second true))
     ∷ row 0x21 (AtOnce (WriteMemoryLocation second false))
     ∷ row 0x30 (AtOnce (SetDtr 0 second))
     ∷ row 0x31 (AtOnce (SetDtr 1 second))
     ∷ row 0x32 (AtOnce (SetDtr 2 second))
-    ∷ [])
-    first
+    ∷ []
 
--- special commands by number: 0xC1 is number 0, 0xC5 number 2 (offset, data), 0xC7 number 3 (DTR1 then DTR0),
--- 0xC9 number 4 (DTR2 then DTR1)
-unfoldable pub specialCommand : ℕ → ℕ → ℕ → Meaning
-specialCommand number first second =
-    listed
-    (row 0 (firstSpecial first second)
-    ∷ row 2 (AtOnce (DirectWriteMemory first second))
+unfoldable pub firstSpecial : ℕ → ℕ → Meaning
+firstSpecial first second = listed (firstRows second) first
+
+-- 0xC5, 0xC7, 0xC9 are the special numbers 2, 3, 4: DIRECT WRITE MEMORY (offset, data); DTR1 then DTR0; DTR2 then DTR1
+abbrev pub otherRows : ℕ → ℕ → List Row
+otherRows first second =
+    row 2 (AtOnce (DirectWriteMemory first second))
     ∷ row 3 (AtOnce (SetDtrs 0 first second))
     ∷ row 4 (AtOnce (SetDtrs 1 first second))
-    ∷ [])
-    number
+    ∷ []
+
+-- 0xC1 is special number 0
+unfoldable pub specialCommand : ℕ → ℕ → ℕ → Meaning
+specialCommand number first second =
+    if eqb number 0 then firstSpecial first second
+    else listed (otherRows first second) number
 
 -- instance, feature and unlisted device commands are read, not obeyed
 abbrev pub commandAt : Target → ℕ → Meaning

@@ -7,3 +7,4 @@ pub mod Parts
 pub mod Numbers
 pub mod Settled
 pub mod Powers
+pub mod Below
