@@ -48,3 +48,12 @@ fieldPresent (Field.Holds v) = 1
 abbrev pub fieldValue : Field → ℕ
 fieldValue Field.Blank = 0
 fieldValue (Field.Holds v) = v
+
+-- the number of an answer: 0 where it is no refusal
+abbrev pub readingNumber : Reading → ℕ
+readingNumber (Reading.Got m) = 0
+readingNumber (Reading.Refused n) = n
+
+abbrev pub writingNumber : Writing → ℕ
+writingNumber (Writing.Frame f) = 0
+writingNumber (Writing.Refused n) = n

@@ -3,6 +3,7 @@ mod message; // the types
 mod values; // the number and the values of each case
 mod kinds; // the table of kinds
 mod reader; // from a frame to a message
+mod writer; // from a message to a frame
 
 pub use message::Address;
 pub use message::Addressed;
@@ -17,3 +18,4 @@ pub use message::Target;
 pub use message::Targeted;
 pub use message::Writing;
 pub use reader::read;
+pub use writer::write;

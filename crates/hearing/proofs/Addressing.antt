@@ -12,4 +12,5 @@ for-the-unit who =
       short = λ a. (eqb-true (who .address) a, eq-eqb (who .address) a);
       group = λ g. (eqb-true (who .groups / 2 ^ g % 2) 1, eq-eqb (who .groups / 2 ^ g % 2) 1);
       unaddressed = (eqb-true (who .address) 255, eq-eqb (who .address) 255);
-      broadcast = refl }
+      broadcast = refl;
+    }

@@ -20,7 +20,7 @@ pub data Code : Type 0 where
   device : (opcode : ℕ) → Code
   special : (address first second : ℕ) → Code
 
--- RESET MEMORY BANK, SET SHORT ADDRESS, ENABLE WRITE MEMORY; ADD TO and REMOVE FROM DEVICE GROUPS: half 0 is groups 0-15, half 1 is 16-31
+-- ADD TO and REMOVE FROM DEVICE GROUPS: half 0 is groups 0-15, half 1 is 16-31
 abbrev pub twiceCode : Twice → Code
 twiceCode ResetMemoryBank = device 0x11
 twiceCode SetShortAddress = device 0x14
@@ -28,8 +28,8 @@ twiceCode EnableWriteMemory = device 0x15
 twiceCode (AddToDeviceGroups half) = device (0x19 + half)
 twiceCode (RemoveFromDeviceGroups half) = device (0x1B + half)
 
--- QUERY CONTENT DTRk, QUERY DEVICE GROUPS by byte (low byte first), WRITE MEMORY LOCATION with or without reply,
--- DIRECT WRITE MEMORY (offset, data), DTRk, and DTR(k+1) then DTRk
+-- QUERY CONTENT DTRk; QUERY DEVICE GROUPS, byte k (low byte first); WRITE MEMORY LOCATION, replying or without reply;
+-- DIRECT WRITE MEMORY (offset, data); DTRk; DTR(k+1) then DTRk
 abbrev pub onceCode : Once → Code
 onceCode QueryMissingShortAddress = device 0x33
 onceCode (QueryContentDtr k) = device (0x36 + k)

@@ -21,8 +21,8 @@ use Rattle.hearing.specs.declared.meaning.Twice.the-variants.{AddToDevic
 use Rattle.hearing.specs.declared.meaning.Meaning.{Meaning}
 use Rattle.hearing.specs.declared.meaning.Meaning.the-variants.{Foreign, NotObeyed, AtOnce, NeedsPair}
 
--- a command is for the unit if its short address or group matches, if broadcast, if broadcast unaddressed while its address
--- is 255 (or if special: below)
+-- a command is for the unit if its short address or group matches, if broadcast,
+-- if broadcast unaddressed while its address is 255, or if special (below)
 abbrev pub isFor : Who → Address → Bool
 isFor who (Address.Short a) = eqb (who .address) a
 isFor who (Address.Group g) = eqb (who .groups / 2 ^ g % 2) 1
@@ -109,7 +109,9 @@ commandAt Target.InstanceBroadcast opcode = NotObeyed
 
 -- foreign: an event, or a command for others
 abbrev pub messageMeaning : Who → Message → Meaning
-messageMeaning who (Message.Command address target opcode) = if isFor who address then commandAt target opcode else Foreign
+messageMeaning who (Message.Command address target opcode) =
+    if isFor who address then commandAt target opcode
+    else Foreign
 messageMeaning who (Message.Special number first second) = specialCommand number first second
 messageMeaning who (Message.Event scheme high low information) = Foreign
 messageMeaning who (Message.Power group short) = Foreign

@@ -45,7 +45,7 @@ abbrev pub keepers : List Row → List Code
 keepers [] = []
 keepers (r ∷ rs) = if closes (r .means) then keepers rs else codeOf (r .means) ∷ keepers rs
 
--- of all listed commands exactly eleven keep write-enable: QUERY CONTENT DTR0..2, the three writes, the five DTR commands
+-- write-enable keeps through the three writes, the five DTR commands and QUERY CONTENT DTR0..2, and through no other
 abbrev pub ElevenKeep : Type 0
 ElevenKeep =
     (first second : ℕ) →

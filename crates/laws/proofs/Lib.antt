@@ -6,5 +6,5 @@ pub mod Items
 pub mod Parts
 pub mod Numbers
 pub mod Settled
+pub mod Counts
 pub mod Powers
-pub mod Below

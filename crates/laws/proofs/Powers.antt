@@ -1,6 +1,6 @@
 -- Powers of two: a number has no bits above its width.
 -- Assumes nothing.
-use mathlib.Core.Path.{_≡_, refl, ap, _∙_}
+use mathlib.Core.Path.{_≡_, ap}
 use Prim.Native.Nat.{ℕ, _^_, _/_, _%_, _<_, _≤_}
 use native.Mathlib.Nat.{div-eq-of-lt, lt-of-lt-of-le}
 use lib.Pow.{pow-mono}

@@ -1,7 +1,6 @@
 -- `hearing::asked::is_member` meets its contract.
 -- Assumes nothing.
 use borrow.Author.Needs.{needs}
-use Rattle.laws.proofs.Tests.{tests}
 use Rattle.laws.proofs.Powers.{none-above}
 use Rattle.hearing.proofs.asked.is_member.Statement.{statement}
 use Rattle.hearing.proofs.asked.is_member.Tie as tie

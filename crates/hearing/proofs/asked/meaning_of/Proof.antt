@@ -1,7 +1,6 @@
 -- `hearing::asked::meaning_of` meets its contract.
 -- Assumes nothing.
 use borrow.Author.Needs.{needs}
-use mathlib.Core.Path.{sym, _∙_}
 use Rattle.hearing.specs.Meaning.{meaningOf}
 use Rattle.hearing.proofs.asked.meaning_of.Statement.{statement}
 use Rattle.hearing.proofs.asked.meaning_of.Tie as tie
@@ -16,4 +15,5 @@ meaning-of-spec =
     (λ c. search needs)
     (λ c. rw (← c .before .before .read .ensures, c .enum-told .given .1))
     (λ c κs. search needs)
-    (λ c. rw (← c .before .before .before .before .read .ensures, c .before .before .message .given .1) (c .message-meaning .ensures)))
+    (λ c. rw (← c .before .before .before .before .read .ensures, c .before .before .message .given .1)
+    (c .message-meaning .ensures)))

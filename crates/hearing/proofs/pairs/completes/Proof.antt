@@ -15,7 +15,8 @@ unfolding completes inTime passed
 returns c =
     let waiting = c .before .before .before .before .args .waiting in
     let heard = c .before .before .before .before .args .heard in
-    let e : c .before .before .before .wrapping-sub-u32 .result ≡ (heard .clock + 2 ^ 32 - waiting .clock) % 2 ^ 32 = omega arith in
+    let told = c .before .before .before .wrapping-sub-u32 in
+    let e : told .result ≡ (heard .clock + 2 ^ 32 - waiting .clock) % 2 ^ 32 = omega arith in
     ap (λ (n : ℕ). waiting .held && (eqb (waiting .frame) (heard .frame) && leb n 100)) e
 
 pub completes-spec : {M : Type 1} → statement M
