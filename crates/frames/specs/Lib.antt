@@ -2,5 +2,8 @@ pub mod Values
 pub mod Kind
 pub mod Read
 pub mod Write
+pub mod Compose
+pub mod Word
 pub mod Promises
 pub mod Refusals
+pub mod Bench

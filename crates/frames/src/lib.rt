@@ -4,7 +4,11 @@ mod values; // the number and the values of each case
 mod kinds; // the table of kinds
 mod reader; // from a frame to a message
 mod writer; // from a message to a frame
+mod composer; // events, composed
+mod words; // a reading as one number, and back
 
+pub use composer::compose_event;
+pub use composer::compose_power;
 pub use message::Address;
 pub use message::Addressed;
 pub use message::Field;
@@ -18,4 +22,6 @@ pub use message::Target;
 pub use message::Targeted;
 pub use message::Writing;
 pub use reader::read;
+pub use words::message_of;
+pub use words::word_of;
 pub use writer::write;
