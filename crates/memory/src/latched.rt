@@ -1,0 +1,81 @@
+// READ in a mapped bank, and the latch.
+ghost use mathlib.Core.Path.{_≡_};
+ghost use Prim.Native.Nat.{_+_, _-_, _<_, _≤_};
+ghost use lib.ListN.{length};
+ghost use Rattle.memory.specs.Latched.{noneLatched, latches, latchFrom, shown, showByte};
+use crate::parts::padded_part;
+use banks::Record;
+
+pub struct Latch {
+    pub held: bool,
+    pub bank: u8,
+    pub first: u8,
+    pub bytes: [u8; 8],
+}
+
+pub struct Shown {
+    pub latch: Latch,
+    pub answered: bool,
+    pub answer: u8,
+}
+
+// Nothing is latched.
+pub fn none_latched() -> Latch
+    ensures { λ l. ⌜ l ≡ noneLatched ⌝ }
+{
+    Latch {
+        held: false,
+        bank: 0,
+        first: 0,
+        bytes: [0; 8],
+    }
+}
+
+// The latch holds this value's bytes.
+fn is_latched(l: Latch, r: Record) -> bool
+    ensures { λ b. ⌜ b ≡ latches l r ⌝ }
+{
+    l.held & (l.bank == r.bank) & (l.first == r.first)
+}
+
+// Internal: the latch after the first or single byte of the value was read, whose part of the store this is.
+fn latch_from(part: &[u8], r: Record) -> Latch
+    requires { ⌜ length (now part) ≤ 8 ⌝ }
+    ensures { λ l. ⌜ l ≡ latchFrom r (now (part .entry)) ⌝ }
+{
+    if r.width < 2 {
+        return none_latched();
+    }
+    let bytes = padded_part(part);
+    Latch {
+        held: true,
+        bank: r.bank,
+        first: r.first,
+        bytes: bytes,
+    }
+}
+
+fn shown_as(l: Latch, byte: u8) -> Shown
+    ensures { λ a. ⌜ a ≡ shown l byte ⌝ }
+{
+    Shown {
+        latch: l,
+        answered: true,
+        answer: byte,
+    }
+}
+
+// Internal: byte number k of the value, whose part of the store this is.
+fn show_byte(part: &[u8], l: Latch, r: Record, k: usize) -> Shown
+    requires { ⌜ (k < length (now part)) × (length (now part) ≤ 8) ⌝ }
+    ensures { λ a. ⌜ a ≡ showByte l r (now (part .entry)) k ⌝ }
+{
+    if k == 0 {
+        let latch = latch_from(part, r);
+        return shown_as(latch, part[0]);
+    }
+    if is_latched(l, r) {
+        return shown_as(l, l.bytes[k]);
+    }
+    shown_as(l, part[k])
+}
