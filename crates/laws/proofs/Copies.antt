@@ -40,7 +40,7 @@ drop-replicate (suc i) (suc n) v = drop-replicate i n v ∙ ap (λ (k : ℕ). re
 pub copy-all : (i n v : ℕ) (s : List ℕ) → length s ≡ i → take i s ++ drop i (replicate n v) ≡ s ++ replicate (n - length s) v
 copy-all i n v s h = rw (← h, take-length s, drop-replicate (length s) n v)
 
-module _ (s : List ℕ) (at n end : ℕ) (e : end ≡ at + n) (h : at + n ≤ length s) where
+module _ (s : List ℕ) (at n end : ℕ) (e : end ≡ at + n) where
   width : end - at ≡ n
   width = ap (λ (k : ℕ). k - at) e ∙ add-sub-cancel-left at n
 
@@ -50,10 +50,10 @@ module _ (s : List ℕ) (at n end : ℕ) (e : end ≡ at + n) (h : at + n ≤ le
   lent = ap (λ (k : ℕ). take k (drop at s)) width
 
   -- the part that was lent comes back with as many of the bytes as it has room for: they are put there
-  pub put-back : (bs ys : List ℕ) → n ≤ length bs → ys ≡ take (length (take (end - at) (drop at s))) bs
+  pub put-back : at + n ≤ length s → (bs ys : List ℕ) → n ≤ length bs → ys ≡ take (length (take (end - at) (drop at s))) bs
       → take at s ++ (ys ++ drop (end - at) (drop at s)) ≡ put at (take n bs) s
   unfolding put
-  put-back bs ys k q =
+  put-back h bs ys k q =
       let m : length (take (end - at) (drop at s)) ≡ n = ap length lent ∙ length-part at n s h in
       let l : length (take n bs) ≡ n = length-take-le n bs k in
       let y : ys ≡ take n bs = q ∙ ap (λ (j : ℕ). take j bs) m in

@@ -2,9 +2,12 @@
 ghost use mathlib.Core.Path.{_≡_};
 ghost use Prim.Native.Nat.{_+_, _-_, _<_, _≤_};
 ghost use lib.ListN.{length};
+ghost use Rattle.banks.specs.Lookup.{valueOf};
+ghost use Rattle.memory.specs.Reach.{Reaches};
 ghost use Rattle.memory.specs.Latched.{noneLatched, latches, latchFrom, shown, showByte};
 use crate::parts::padded_part;
 use banks::Record;
+use banks::places_end;
 
 pub struct Latch {
     pub held: bool,
@@ -78,4 +81,16 @@ fn show_byte(part: &[u8], l: Latch, r: Record, k: usize) -> Shown
         return shown_as(l, l.bytes[k]);
     }
     shown_as(l, part[k])
+}
+
+// Internal: the byte at a location of the value.
+fn show_value(store: &[u8], l: Latch, r: Record, location: u8) -> Shown
+    requires { ⌜ Reaches (length (now store)) location r ⌝ }
+    ensures { λ a. ⌜ a ≡ showByte l r (valueOf r (now (store .entry))) (location - r .first) ⌝ }
+{
+    let at = r.offset as usize;
+    let end = places_end(r);
+    let first = r.first;
+    let k = location - first;
+    show_byte(&store[at..end], l, r, k as usize)
 }

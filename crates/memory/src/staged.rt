@@ -1,8 +1,10 @@
 // An executed write: the byte that is taken, the bytes that are staged, the whole value in the store.
 ghost use mathlib.Core.Path.{_≡_};
 ghost use Prim.Native.Nat.{_+_, _<_, _≤_};
-ghost use lib.ListN.{length, take};
-ghost use Rattle.memory.specs.Staged.{noneStaged, isNext, bytesWith};
+ghost use lib.ListN.{length};
+ghost use Rattle.laws.specs.Outcome.{Gives};
+ghost use Rattle.memory.specs.Staged.{noneStaged, isNext, bytesWith, wrote, takeByte};
+use crate::parts::put_value;
 use banks::Record;
 
 pub struct Staged {
@@ -51,4 +53,32 @@ fn bytes_with(g: Staged, k: usize, byte: u8) -> [u8; 8]
     let mut bytes = g.bytes;
     bytes[k] = byte;
     bytes
+}
+
+fn wrote_as(taken: bool, g: Staged) -> Wrote
+    ensures { λ a. ⌜ a ≡ wrote taken g ⌝ }
+{
+    Wrote {
+        taken: taken,
+        staged: g,
+    }
+}
+
+// Internal: byte number k of the value is taken.
+fn take_byte(store: &mut [u8], g: Staged, r: Record, k: u8, byte: u8) -> Wrote
+    requires { ⌜ (k < r .width) × (r .width ≤ 8) × (r .offset + r .width ≤ length (now store)) ⌝ }
+    ensures { λ a. ⌜ Gives a (now (store .exit)) (takeByte (now (store .entry)) g r k byte) ⌝ }
+{
+    let bytes = bytes_with(g, k as usize, byte);
+    if k + 1 == r.width {
+        put_value(store, r, &bytes);
+        return wrote_as(true, none_staged());
+    }
+    let more = Staged {
+        count: k + 1,
+        bank: r.bank,
+        first: r.first,
+        bytes: bytes,
+    };
+    wrote_as(true, more)
 }
