@@ -8,7 +8,7 @@ use native.Mathlib.Omega.{arith}
 use native.Mathlib.Numerals.{add-one}
 use native.Mathlib.Nat.{not-suc-le-zero, le-of-suc-le-suc, zero-sub, sub-zero, suc-sub-suc, add-sub-cancel-left}
 use lib.ListN.{length, take, drop, set, getD, replicate, drop-of-length-le, length-drop, length-take}
-use lib.Seq.{take-length, drop-drop, length-take-le, sets-eq}
+use lib.Seq.{take-length, take-take, drop-drop, length-take-le, sets-eq}
 use Rattle.laws.specs.Parts.{part, put}
 use Rattle.laws.proofs.Parts.{length-part}
 
@@ -48,6 +48,11 @@ module _ (s : List ℕ) (at n end : ℕ) (e : end ≡ at + n) where
   pub lent : take (end - at) (drop at s) ≡ part at n s
   unfolding part
   lent = ap (λ (k : ℕ). take k (drop at s)) width
+
+  -- as many bytes of it as it has are all of it
+  pub lent-whole : take n (take (end - at) (drop at s)) ≡ part at n s
+  unfolding part
+  lent-whole = ap (take n) lent ∙ take-take n n (drop at s) (omega arith)
 
   -- the part that was lent comes back with as many of the bytes as it has room for: they are put there
   pub put-back : at + n ≤ length s → (bs ys : List ℕ) → n ≤ length bs → ys ≡ take (length (take (end - at) (drop at s))) bs
