@@ -2,3 +2,4 @@ pub mod Reach
 pub mod Staged
 pub mod Latched
 pub mod Filled
+pub mod Rooms

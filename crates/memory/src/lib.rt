@@ -3,6 +3,7 @@ mod parts; // a value's part of the store
 mod staged; // an executed write
 mod latched; // READ and the latch
 mod filled; // reset and power-on
+mod rooms; // rules of a state
 
 pub use filled::Filling;
 pub use latched::Latch;
