@@ -7,3 +7,5 @@ pub mod Parts
 pub mod Copies
 pub mod Numbers
 pub mod Settled
+pub mod Sides
+pub mod Members
