@@ -1,12 +1,17 @@
 // READ in a mapped bank, and the latch.
 ghost use mathlib.Core.Path.{_≡_};
+ghost use mathlib.Core.Bool.{true};
 ghost use Prim.Native.Nat.{_+_, _-_, _<_, _≤_};
 ghost use lib.ListN.{length};
+ghost use Rattle.banks.specs.Map.{recordsOf};
+ghost use Rattle.banks.specs.Rules.{placed};
 ghost use Rattle.banks.specs.Lookup.{valueOf};
 ghost use Rattle.memory.specs.Reach.{Reaches};
-ghost use Rattle.memory.specs.Latched.{noneLatched, latches, latchFrom, shown, showByte};
+ghost use Rattle.memory.specs.Latched.{noneLatched, latches, latchFrom, shown, showByte, readOf};
 use crate::parts::padded_part;
+use banks::Found;
 use banks::Record;
+use banks::lookup;
 use banks::places_end;
 
 pub struct Latch {
@@ -93,4 +98,19 @@ fn show_value(store: &[u8], l: Latch, r: Record, location: u8) -> Shown
     let first = r.first;
     let k = location - first;
     show_byte(&store[at..end], l, r, k as usize)
+}
+
+// Internal: READ at a location of a mapped bank.
+pub fn read_byte(map: &[u8], store: &[u8], latch: Latch, bank: u8, location: u8) -> Shown
+    requires { ⌜ placed (now map) (length (now store)) ≡ true ⌝ }
+    ensures { λ a. ⌜ a ≡ readOf (recordsOf (now (map .entry))) (now (store .entry)) latch bank location ⌝ }
+{
+    match lookup(map, bank, location) {
+        Found::At(r) => show_value(store, latch, r, location),
+        Found::Nothing => Shown {
+            latch: latch,
+            answered: false,
+            answer: 0,
+        },
+    }
 }

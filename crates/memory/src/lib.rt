@@ -9,6 +9,7 @@ pub use filled::Filling;
 pub use latched::Latch;
 pub use latched::Shown;
 pub use latched::none_latched;
+pub use latched::read_byte;
 pub use staged::Staged;
 pub use staged::Wrote;
 pub use staged::none_staged;
