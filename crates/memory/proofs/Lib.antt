@@ -1,2 +1,4 @@
 pub mod Zeros
 pub mod Reaching
+pub mod Writes
+pub mod Run
