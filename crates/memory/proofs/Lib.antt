@@ -2,3 +2,4 @@ pub mod Zeros
 pub mod Reaching
 pub mod Writes
 pub mod Run
+pub mod StagedRoom

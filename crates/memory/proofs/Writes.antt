@@ -2,22 +2,59 @@
 -- Assumes nothing.
 use Prim.Native.Nat.{ℕ, _+_, _-_, _≤_, _<_}
 use mathlib.Core.Path.{_≡_, refl, ap, sym, _∙_}
-use mathlib.Core.Bool.{Bool, true, false}
+use mathlib.Core.Logic.{_⊎_, inl, inr, ⊎-elim}
+use mathlib.Core.Bool.{Bool, true, false, _&&_, _||_}
 use mathlib.Core.List.{List}
 use native.Mathlib.Omega.{arith}
-use borrow.Author.Tests.{eq-eqb, ne-eqb}
+use borrow.Author.Tests.{eq-eqb, ne-eqb, eqb-true, leb-true}
 use lib.Dec.{eqb}
 use lib.ListN.{take}
 use Rattle.laws.specs.Choice.{if_then_else_}
 use Rattle.laws.specs.Outcome.{Outcome, leaves}
 use Rattle.laws.proofs.Tests.{if-by, if-eq}
+use Rattle.laws.proofs.Sides.{either, and-left, and-right}
+use Rattle.banks.specs.Map.{writable}
 use Rattle.banks.specs.Lookup.{holder, putValue}
 use Rattle.banks.specs.declared.record.Record.{Record}
 use Rattle.banks.specs.declared.holder.Found.{Found}
 use Rattle.banks.specs.declared.holder.Found.the-variants.{At, Nothing}
-use Rattle.memory.specs.Staged.{noneStaged, taken, bytesWith, stagedOf, wrote, takeByte, dropped, writeFound, writeAt, writeOf}
+use Rattle.memory.specs.Staged.{noneStaged, isNext, unlocked, taken, bytesWith, stagedOf, wrote, takeByte, dropped, writeFound, writeAt, writeOf}
 use Rattle.memory.specs.declared.staged.Staged.{Staged}
 use Rattle.memory.specs.declared.staged.Wrote.{Wrote}
+
+-- the location is that of the next byte of the value that is staged
+pub record Next (g : Staged) (r : Record) (location : ℕ) : Type 0 where
+  pub some : 1 ≤ g .count
+  pub same-bank : g .bank ≡ r .bank
+  pub same-first : g .first ≡ r .first
+  pub place : location ≡ r .first + g .count
+
+-- what a byte that is taken meets
+pub record Taken (rs : List Record) (store : List ℕ) (g : Staged) (r : Record) (location : ℕ) : Type 0 where
+  pub writes : writable r ≡ true
+  pub opens : unlocked rs store r ≡ true
+  pub first-or-next : (location ≡ r .first) ⊎ Next g r location
+
+next-is : (g : Staged) (r : Record) (location : ℕ) → isNext g r location ≡ true → Next g r location
+next-is g r location e =
+    record {
+      some = search (and-left, and-right, leb-true);
+      same-bank = search (and-left, and-right, eqb-true);
+      same-first = search (and-left, and-right, eqb-true);
+      place = search (and-left, and-right, eqb-true);
+    }
+
+pub taken-is : (rs : List Record) (store : List ℕ) (g : Staged) (r : Record) (location : ℕ) → taken rs store g r location ≡ true
+    → Taken rs store g r location
+unfolding taken
+taken-is rs store g r location e =
+    record {
+      writes = search (and-left, and-right);
+      opens = search (and-left, and-right);
+      first-or-next =
+        ⊎-elim (λ t. inl (eqb-true location (r .first) t)) (λ t. inr (next-is g r location t))
+        (either (eqb location (r .first)) (isNext g r location) (search (and-left, and-right)));
+    }
 
 module _ (rs : List Record) (store : List ℕ) (g : Staged) (bank location byte : ℕ) where
   abbrev pub number : Record → ℕ
