@@ -4,7 +4,11 @@ pub mod Trailing
 pub mod Table
 pub mod Items
 pub mod Parts
+pub mod Copies
 pub mod Numbers
 pub mod Settled
 pub mod Counts
 pub mod Powers
+pub mod Sides
+pub mod Members
+pub mod Joined

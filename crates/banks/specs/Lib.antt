@@ -1,0 +1,5 @@
+pub mod Map
+pub mod Rules
+pub mod Lookup
+pub mod Look
+pub mod Facts
