@@ -3,6 +3,7 @@ mod state; // the rooms
 mod due; // what a frame makes happen now
 
 pub use due::Due;
+pub use due::due_by;
 pub use state::Door;
 pub use state::Registers;
 pub use state::Reply;
