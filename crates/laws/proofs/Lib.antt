@@ -12,3 +12,4 @@ pub mod Settled
 pub mod Sides
 pub mod Members
 pub mod Joined
+pub mod PartBytes
