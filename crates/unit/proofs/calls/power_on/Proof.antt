@@ -1,0 +1,48 @@
+use borrow.Author.Needs.{needs}
+use Rattle.unit.proofs.calls.power_on.Statement.{statement}
+use Rattle.unit.proofs.calls.power_on.Tie as tie
+use Rattle.unit.proofs.calls.power_on.Reads as reads
+use Rattle.unit.proofs.calls.power_on.Lts as lts
+use Rattle.unit.proofs.calls.power_number.Reads as power-number-reads
+use Rattle.unit.proofs.calls.power_step.Reads as power-step-reads
+use Rattle.unit.proofs.state.refusing.Reads as refusing-reads
+
+-- src/calls.rt:109:9
+power-number-requires : tie.Need-power-number-requires
+power-number-requires c κs = search needs
+
+-- src/calls.rt:111:9
+refusing-requires : tie.Need-refusing-requires
+refusing-requires c κs = search needs
+
+-- src/calls.rt:111:9
+same-length : tie.Need-same-length
+same-length c = search needs
+
+-- src/calls.rt:111:9
+returns : tie.Need-returns
+returns c = ?
+
+-- src/calls.rt:114:5
+power-step-requires : tie.Need-power-step-requires
+power-step-requires c κs = ?
+
+-- src/calls.rt:106:1
+same-length-2 : tie.Need-same-length-2
+same-length-2 c = search needs
+
+-- src/calls.rt:106:1
+returns-2 : tie.Need-returns-2
+returns-2 c = ?
+
+pub power-on-spec : {M : Type 1} → statement M
+power-on-spec =
+    tie.close
+    (tie.spec
+    power-number-requires
+    refusing-requires
+    same-length
+    returns
+    power-step-requires
+    same-length-2
+    returns-2)

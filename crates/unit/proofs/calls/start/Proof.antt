@@ -1,0 +1,54 @@
+use borrow.Author.Needs.{needs}
+use Rattle.unit.proofs.calls.start.Statement.{statement}
+use Rattle.unit.proofs.calls.start.Tie as tie
+use Rattle.unit.proofs.calls.start.Reads as reads
+use Rattle.unit.proofs.calls.start.Lts as lts
+use Rattle.unit.proofs.calls.power_step.Reads as power-step-reads
+use Rattle.unit.proofs.calls.start_number.Reads as start-number-reads
+use Rattle.unit.proofs.state.powered_on.Reads as powered-on-reads
+use Rattle.unit.proofs.state.refusing.Reads as refusing-reads
+
+-- src/calls.rt:121:9
+start-number-requires : tie.Need-start-number-requires
+start-number-requires c κs = search needs
+
+-- src/calls.rt:127:25
+powered-on-requires : tie.Need-powered-on-requires
+powered-on-requires c κs = search needs
+
+-- src/calls.rt:127:9
+refusing-requires : tie.Need-refusing-requires
+refusing-requires c κs = search needs
+
+-- src/calls.rt:127:9
+same-length : tie.Need-same-length
+same-length c = search needs
+
+-- src/calls.rt:127:9
+returns : tie.Need-returns
+returns c = ?
+
+-- src/calls.rt:129:5
+power-step-requires : tie.Need-power-step-requires
+power-step-requires c κs = ?
+
+-- src/calls.rt:118:1
+same-length-2 : tie.Need-same-length-2
+same-length-2 c = search needs
+
+-- src/calls.rt:118:1
+returns-2 : tie.Need-returns-2
+returns-2 c = ?
+
+pub start-spec : {M : Type 1} → statement M
+start-spec =
+    tie.close
+    (tie.spec
+    start-number-requires
+    powered-on-requires
+    refusing-requires
+    same-length
+    returns
+    power-step-requires
+    same-length-2
+    returns-2)

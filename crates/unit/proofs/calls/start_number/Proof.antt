@@ -1,0 +1,31 @@
+use borrow.Author.Needs.{needs}
+use Rattle.unit.proofs.calls.start_number.Statement.{statement}
+use Rattle.unit.proofs.calls.start_number.Tie as tie
+use Rattle.unit.proofs.calls.start_number.Reads as reads
+use Rattle.unit.proofs.calls.start_number.Lts as lts
+use Rattle.banks.proofs.check.Reads as check-reads
+use Rattle.unit.proofs.rules.address_holds.Reads as address-holds-reads
+
+-- src/calls.rt:82:9
+check-requires : tie.Need-check-requires
+check-requires c κs = search needs
+
+-- src/calls.rt:84:9
+returns : tie.Need-returns
+returns c = ?
+
+-- src/calls.rt:86:8
+address-holds-requires : tie.Need-address-holds-requires
+address-holds-requires c κs = search needs
+
+-- src/calls.rt:79:1
+returns-2 : tie.Need-returns-2
+returns-2 c = ?
+
+-- src/calls.rt:79:1
+returns-3 : tie.Need-returns-3
+returns-3 c = ?
+
+pub start-number-spec : {M : Type 1} → statement M
+start-number-spec =
+    tie.close (tie.spec check-requires returns address-holds-requires returns-2 returns-3)
