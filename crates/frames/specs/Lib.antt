@@ -1,0 +1,4 @@
+pub mod Values
+pub mod Kind
+pub mod Read
+pub mod Write

@@ -1,0 +1,50 @@
+-- The number and the values that paper 01 gives to each case of the enums, and the case of a number and a value.
+-- Assumes nothing.
+use Prim.Native.Nat.{ℕ}
+use lib.Dec.{eqb}
+use Rattle.laws.specs.Choice.{if_then_else_}
+use Rattle.frames.specs.declared.message.Address.{Address}
+use Rattle.frames.specs.declared.message.Field.{Field}
+use Rattle.frames.specs.declared.message.Reading.{Reading}
+use Rattle.frames.specs.declared.message.Scheme.{Scheme}
+use Rattle.frames.specs.declared.message.Target.{Target}
+use Rattle.frames.specs.declared.message.Targeted.{Targeted}
+use Rattle.frames.specs.declared.message.Writing.{Writing}
+
+-- what has no number is 0
+abbrev pub targetNumber : Target → ℕ
+targetNumber (Target.InstanceNumber n) = n
+targetNumber (Target.InstanceGroup n) = n
+targetNumber (Target.InstanceType n) = n
+targetNumber (Target.FeatureAtNumber n) = n
+targetNumber (Target.FeatureAtGroup n) = n
+targetNumber (Target.FeatureAtType n) = n
+targetNumber Target.FeatureBroadcast = 0
+targetNumber Target.DeviceFeature = 0
+targetNumber Target.FeatureAtInstanceBroadcast = 0
+targetNumber Target.Device = 0
+targetNumber Target.InstanceBroadcast = 0
+
+-- the target of a kind of the table, with its number
+unfoldable pub targetAt : ℕ → ℕ → Targeted
+targetAt kind n =
+    if eqb kind 1 then Targeted.At (Target.InstanceNumber n)
+    else if eqb kind 2 then Targeted.At (Target.InstanceGroup n)
+    else if eqb kind 3 then Targeted.At (Target.InstanceType n)
+    else if eqb kind 4 then Targeted.At (Target.FeatureAtNumber n)
+    else if eqb kind 5 then Targeted.At (Target.FeatureAtGroup n)
+    else if eqb kind 6 then Targeted.At (Target.FeatureAtType n)
+    else if eqb kind 7 then Targeted.At Target.FeatureBroadcast
+    else if eqb kind 8 then Targeted.At Target.DeviceFeature
+    else if eqb kind 9 then Targeted.At Target.FeatureAtInstanceBroadcast
+    else if eqb kind 10 then Targeted.At Target.Device
+    else if eqb kind 11 then Targeted.At Target.InstanceBroadcast
+    else Targeted.Reserved
+
+abbrev pub fieldPresent : Field → ℕ
+fieldPresent Field.Blank = 0
+fieldPresent (Field.Holds v) = 1
+
+abbrev pub fieldValue : Field → ℕ
+fieldValue Field.Blank = 0
+fieldValue (Field.Holds v) = v

@@ -1,0 +1,168 @@
+// From a frame to a message.
+ghost use mathlib.Core.Path.{_≡_};
+ghost use Rattle.frames.specs.Read.{addressOf, targetOf, aimed, commandOf, fieldOf, powerOf, schemeOf, firstField, otherOf, eventOf, readOf};
+use crate::kinds::kind;
+use crate::message::Address;
+use crate::message::Addressed;
+use crate::message::Field;
+use crate::message::Fielded;
+use crate::message::Message;
+use crate::message::Reading;
+use crate::message::Scheme;
+use crate::message::Schemed;
+use crate::message::Targeted;
+use crate::values::target_at;
+
+// An odd address byte.
+fn address_of(byte: u8) -> Addressed
+    ensures { λ r. ⌜ r ≡ addressOf byte ⌝ }
+{
+    let one = byte / 128 % 2;
+    let two = byte / 64 % 4;
+    let three = byte / 32 % 8;
+    if one == 0 {
+        return Addressed::To(Address::Short(byte / 2 % 64));
+    }
+    if two == 2 {
+        return Addressed::To(Address::Group(byte / 2 % 32));
+    }
+    if byte == 0xFD {
+        return Addressed::To(Address::Unaddressed);
+    }
+    if byte == 0xFF {
+        return Addressed::To(Address::Broadcast);
+    }
+    if three == 6 {
+        return Addressed::Special(byte / 2 % 16);
+    }
+    Addressed::Reserved
+}
+
+fn target_of(byte: u8) -> Targeted
+    ensures { λ r. ⌜ r ≡ targetOf byte ⌝ }
+{
+    target_at(kind(byte), byte % 32)
+}
+
+pub fn aimed_at(address: Address, targeted: Targeted, opcode: u8) -> Reading
+    ensures { λ r. ⌜ r ≡ aimed address targeted opcode ⌝ }
+{
+    match targeted {
+        Targeted::At(target) => Reading::Got(Message::Command(address, target, opcode)),
+        Targeted::Reserved => Reading::Refused(3),
+    }
+}
+
+fn read_command(frame: u32) -> Reading
+    ensures { λ r. ⌜ r ≡ commandOf frame ⌝ }
+{
+    let instance = (frame / 256 % 256) as u8;
+    let opcode = (frame % 256) as u8;
+    match address_of((frame / 65536 % 256) as u8) {
+        Addressed::To(address) => aimed_at(address, target_of(instance), opcode),
+        Addressed::Special(number) => Reading::Got(Message::Special(number, instance, opcode)),
+        Addressed::Reserved => Reading::Refused(2),
+    }
+}
+
+// The scheme of an event, by its bits 23, 22 and 15.
+fn scheme_of(b23: u32, b22: u32, b15: u32) -> Schemed
+    ensures { λ r. ⌜ r ≡ schemeOf b23 b22 b15 ⌝ }
+{
+    if b23 == 0 {
+        if b15 == 0 {
+            return Schemed::By(Scheme::ShortType);
+        }
+        return Schemed::By(Scheme::ShortNumber);
+    }
+    if b22 == 0 {
+        if b15 == 0 {
+            return Schemed::By(Scheme::GroupType);
+        }
+        return Schemed::By(Scheme::TypeNumber);
+    }
+    if b15 == 0 {
+        return Schemed::By(Scheme::PrimaryType);
+    }
+    Schemed::Other
+}
+
+fn first_field(scheme: Scheme, frame: u32) -> u8
+    ensures { λ r. ⌜ r ≡ firstField scheme frame ⌝ }
+{
+    match scheme {
+        Scheme::TypeNumber => (frame / 131072 % 32) as u8,
+        Scheme::ShortType => (frame / 131072 % 64) as u8,
+        Scheme::ShortNumber => (frame / 131072 % 64) as u8,
+        Scheme::GroupType => (frame / 131072 % 32) as u8,
+        Scheme::PrimaryType => (frame / 131072 % 32) as u8,
+    }
+}
+
+// A bit, and the field that it announces.
+fn field_of(announced: u32, value: u8) -> Fielded
+    ensures { λ r. ⌜ r ≡ fieldOf announced value ⌝ }
+{
+    if announced == 1 {
+        return Fielded::Is(Field::Holds(value));
+    }
+    if value == 0 {
+        return Fielded::Is(Field::Blank);
+    }
+    Fielded::NotBlank
+}
+
+fn read_power(frame: u32) -> Reading
+    ensures { λ r. ⌜ r ≡ powerOf frame ⌝ }
+{
+    let group = (frame / 128 % 32) as u8;
+    let short = (frame % 64) as u8;
+    let Fielded::Is(g) = field_of(frame / 4096 % 2, group) else {
+        return Reading::Refused(5);
+    };
+    let Fielded::Is(s) = field_of(frame / 64 % 2, short) else {
+        return Reading::Refused(5);
+    };
+    Reading::Got(Message::Power(g, s))
+}
+
+// Bits 23, 22 and 15 are ones: a power cycle event, or reserved.
+fn read_other(frame: u32) -> Reading
+    ensures { λ r. ⌜ r ≡ otherOf frame ⌝ }
+{
+    let high = frame / 131072 % 128;
+    let low = frame / 8192 % 8;
+    if high == 127 {
+        if low == 7 {
+            return read_power(frame);
+        }
+    }
+    Reading::Refused(4)
+}
+
+fn read_event(frame: u32) -> Reading
+    ensures { λ r. ⌜ r ≡ eventOf frame ⌝ }
+{
+    let second = (frame / 1024 % 32) as u8;
+    let information = (frame % 1024) as u16;
+    match scheme_of(frame / 8388608 % 2, frame / 4194304 % 2, frame / 32768 % 2) {
+        Schemed::By(scheme) => {
+            let first = first_field(scheme, frame);
+            Reading::Got(Message::Event(scheme, first, second, information))
+        }
+        Schemed::Other => read_other(frame),
+    }
+}
+
+pub fn read(frame: u32) -> Reading
+    ensures { λ r. ⌜ r ≡ readOf frame ⌝ }
+{
+    if frame < 16777216 {
+        let b16 = frame / 65536 % 2;
+        if b16 == 1 {
+            return read_command(frame);
+        }
+        return read_event(frame);
+    }
+    Reading::Refused(1)
+}
