@@ -1,0 +1,4 @@
+pub mod Map
+pub mod Rules
+pub mod Lookup
+pub mod Look
