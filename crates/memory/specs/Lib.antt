@@ -1,0 +1,4 @@
+pub mod Staged
+pub mod Latched
+pub mod Filled
+pub mod Rooms

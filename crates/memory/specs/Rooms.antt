@@ -1,0 +1,42 @@
+-- The rules of the staged and the latched bytes. Paper 01, "State and clock", "Rules of a state".
+-- Assumes nothing.
+use Prim.Native.Nat.{ℕ}
+use mathlib.Core.Bool.{Bool, true, false, _&&_}
+use mathlib.Core.List.{List}
+use lib.Dec.{leb, ltb, eqb}
+use lib.ListN.{drop}
+use Rattle.laws.specs.Choice.{if_then_else_}
+use Rattle.laws.specs.Lists.{every}
+use Rattle.banks.specs.Map.{writable}
+use Rattle.banks.specs.Lookup.{beginner}
+use Rattle.banks.specs.declared.record.Record.{Record}
+use Rattle.banks.specs.declared.holder.Found.{Found}
+use Rattle.banks.specs.declared.holder.Found.the-variants.{At, Nothing}
+use Rattle.memory.specs.Staged.{unlocked}
+use Rattle.memory.specs.declared.staged.Staged.{Staged}
+use Rattle.memory.specs.declared.latched.Latch.{Latch}
+
+-- whatever is not in use is zero
+abbrev pub zeros : List ℕ → Bool
+zeros bytes = every (λ b. eqb b 0) bytes
+
+-- at least one, not all, of a writable value of width 2 or more, its lock byte 0x55 if it is lockable
+unfoldable pub stagedIn : List Record → List ℕ → Staged → Found → Bool
+stagedIn rs store g (At r) =
+    leb 2 (r .width) && (ltb (g .count) (r .width) && (writable r && (unlocked rs store r && zeros (drop (g .count) (g .bytes)))))
+stagedIn rs store g Nothing = false
+
+unfoldable pub stagedHolds : List Record → List ℕ → Staged → Bool
+stagedHolds rs store g =
+    if eqb (g .count) 0 then eqb (g .bank) 0 && (eqb (g .first) 0 && zeros (g .bytes))
+    else stagedIn rs store g (beginner rs (g .bank) (g .first))
+
+-- latched bytes, whatever they are, belong to a mapped value of width 2 or more
+unfoldable pub latchIn : Latch → Found → Bool
+latchIn l (At r) = leb 2 (r .width) && zeros (drop (r .width) (l .bytes))
+latchIn l Nothing = false
+
+unfoldable pub latchHolds : List Record → Latch → Bool
+latchHolds rs l =
+    if l .held then latchIn l (beginner rs (l .bank) (l .first))
+    else eqb (l .bank) 0 && (eqb (l .first) 0 && zeros (l .bytes))

@@ -1,0 +1,6 @@
+pub mod State
+pub mod Rules
+pub mod Due
+pub mod Step
+pub mod Run
+pub mod Bench
