@@ -1,0 +1,78 @@
+-- The bench sheet holds: each line is computed.
+-- Assumes nothing.
+use mathlib.Core.Path.{refl}
+use Rattle.laws.specs.Bits.{bits}
+use Rattle.laws.specs.Numbers.{firstFailing}
+use Rattle.laws.specs.Parts.{part, put}
+use Rattle.frames.specs.Kind.{kindOf}
+use Rattle.frames.specs.Values.{targetAt}
+use Rattle.frames.specs.Read.{readOf, commandOf, addressOf, targetOf, eventOf, schemeOf, otherOf, fieldOf}
+use Rattle.frames.specs.Read.{powerOf as powerEventOf}
+use Rattle.banks.specs.Map.{recordAt, recordsOf}
+use Rattle.banks.specs.Rules.{sizeHolds, lengthsHold, placesHold, bankHolds, banksHold, headByteHolds, headBytesHold}
+use Rattle.banks.specs.Lookup.{holder, ifFirst, beginner, valueOf, putValue, byteAt, lockByte}
+use Rattle.hearing.specs.Meaning.{deviceCommand, firstSpecial, specialCommand, meaningOf}
+use Rattle.hearing.specs.Pairs.{passed, inTime, completes}
+use Rattle.memory.specs.Staged.{unlocked, taken, bytesWith, takeByte, writeAt, writeOf}
+use Rattle.memory.specs.Latched.{latchFrom, showByte, readAt}
+use Rattle.memory.specs.Latched.{readOf as shownOf}
+use Rattle.memory.specs.Filled.{selects, chosen, fresh, filledOf}
+use Rattle.memory.specs.Rooms.{stagedIn, stagedHolds, latchIn, latchHolds}
+use Rattle.unit.specs.State.{withWho, withRegisters, withWaiting, withDoor, withLatch, poweredOn}
+use Rattle.unit.specs.Rules.{waitingHolds, doorHolds, stateHolds}
+use Rattle.unit.specs.Due.{dtrOf, withDtr, groupByte, groupWord, shortDue, writeDue, readDue, onceDue, pairDue}
+use Rattle.unit.specs.Due.{dueBy, dueOf}
+use Rattle.unit.specs.Step.{quiet, answering, refusing, hearing, raised, written, readBy, done, frameOf, powerOf}
+use Rattle.unit.specs.Step.{stepNumber, powerNumber, startNumber, stepOf, powerOnOf, startOf}
+use Rattle.unit.specs.Run.{inputOf, outputOf, runOf}
+use Rattle.unit.specs.Bench.{Sheet-holds}
+
+-- what each floor computes with: to unfold one of these is to unfold all on its line
+reading : Unit {0}
+unfolding bits kindOf targetAt readOf commandOf addressOf targetOf eventOf schemeOf otherOf fieldOf powerEventOf
+reading = tt
+
+checking : Unit {0}
+unfolding firstFailing recordAt recordsOf sizeHolds lengthsHold placesHold bankHolds banksHold headByteHolds headBytesHold
+checking = tt
+
+looking : Unit {0}
+unfolding part put holder ifFirst beginner valueOf putValue byteAt lockByte
+looking = tt
+
+meaning : Unit {0}
+unfolding deviceCommand firstSpecial specialCommand meaningOf passed inTime completes
+meaning = tt
+
+storing : Unit {0}
+unfolding unlocked taken bytesWith takeByte writeAt writeOf latchFrom showByte readAt shownOf selects chosen fresh filledOf
+storing = tt
+
+keeping : Unit {0}
+unfolding stagedIn stagedHolds latchIn latchHolds waitingHolds doorHolds stateHolds
+keeping = tt
+
+rooms : Unit {0}
+unfolding withWho withRegisters withWaiting withDoor withLatch poweredOn dtrOf withDtr groupByte groupWord
+rooms = tt
+
+acting : Unit {0}
+unfolding shortDue writeDue readDue onceDue pairDue dueBy dueOf hearing raised written readBy done frameOf powerOf
+acting = tt
+
+calling : Unit {0}
+unfolding quiet answering refusing stepNumber powerNumber startNumber stepOf powerOnOf startOf inputOf outputOf runOf
+calling = tt
+
+pub sheet-holds : Sheet-holds
+unfolding reading checking looking meaning storing keeping rooms acting calling
+sheet-holds = (
+  record { starts = refl; writes = refl; leaves = refl },
+  (
+    record { starts = refl; writes = refl; leaves = refl },
+    (
+      (record { starts = refl; writes = refl; leaves = refl }, refl, refl),
+      ((refl, refl), tt),
+    ),
+  ),
+)
