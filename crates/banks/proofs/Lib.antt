@@ -1,1 +1,5 @@
 pub mod Walk
+pub mod Members
+pub mod Locations
+pub mod HeadsAndLocks
+pub mod Standing

@@ -3,15 +3,18 @@
 use Prim.Native.Nat.{ℕ, _+_, _≤_, _<_, _-_, _/_}
 use mathlib.Core.Path.{_≡_, refl, ap, sym, _∙_}
 use mathlib.Core.Bool.{Bool, true, false}
-use mathlib.Core.List.{List, [], _∷_}
+use mathlib.Core.List.{List, [], _∷_, Memᴰ·cast}
 use native.Mathlib.Omega.{arith}
+use native.Mathlib.Nat.{zero-add}
 use borrow.Author.Tests.{eq-eqb, ne-eqb}
 use lib.ListN.{length}
 use Rattle.laws.specs.Lists.{items, every}
 use Rattle.laws.proofs.Items.{items-start, items-end, items-cons}
+use Rattle.laws.proofs.Members.{items-member}
 use Rattle.banks.specs.Map.{recordAt, recordsOf, mapped}
 use Rattle.banks.specs.Rules.{before, risingFrom, rising, clear, disjoint}
 use Rattle.banks.specs.Lookup.{holds, holder}
+use Rattle.banks.specs.Facts.{Member}
 use Rattle.banks.specs.declared.record.Record.{Record}
 use Rattle.banks.specs.declared.holder.Found.the-variants.{At, Nothing}
 
@@ -42,11 +45,17 @@ module _ (map : List ℕ) (n i : ℕ) (h : i < n) (r : Record) (e : r ≡ record
   pub rising-goes-on : (p : Record) → before p r ≡ true → risingFrom p (from map n i) ≡ risingFrom r (from map n (i + 1))
   rising-goes-on p t = ap (risingFrom p) next ∙ rw t
 
-  pub disjoint-fails : every (clear r) (from map n (i + 1)) ≡ false → disjoint (from map n i) ≡ false
-  disjoint-fails t = ap disjoint next ∙ rw t
+  module _ (k : n ≡ length map / 8) where
+    pub member : Member r map
+    unfolding recordsOf
+    member =
+        Memᴰ·cast (e ∙ ap (recordAt map) (sym (zero-add i))) (items-member (recordAt map) 0 (length map / 8) i (omega arith))
 
-  pub disjoint-goes-on : every (clear r) (from map n (i + 1)) ≡ true → disjoint (from map n i) ≡ disjoint (from map n (i + 1))
-  disjoint-goes-on t = ap disjoint next ∙ rw t
+    pub disjoint-fails : every (clear r) (from map (length map / 8) (i + 1)) ≡ false → disjoint (from map n i) ≡ false
+    disjoint-fails t = ap disjoint next ∙ rw (k, t)
+
+    pub disjoint-goes-on : every (clear r) (from map (length map / 8) (i + 1)) ≡ true → disjoint (from map n i) ≡ disjoint (from map n (i + 1))
+    disjoint-goes-on t = ap disjoint next ∙ rw (k, t)
 
   pub mapped-found : (bank : ℕ) → r .bank ≡ bank → mapped (from map n i) bank ≡ true
   mapped-found bank t = ap (λ (l : List Record). mapped l bank) next ∙ rw (eq-eqb (r .bank) bank t)

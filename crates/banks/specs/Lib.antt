@@ -2,3 +2,4 @@ pub mod Map
 pub mod Rules
 pub mod Lookup
 pub mod Look
+pub mod Facts

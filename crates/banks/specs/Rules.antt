@@ -79,13 +79,19 @@ bankHolds rs r =
 unfoldable pub banksHold : List Record → Bool
 banksHold rs = every (bankHolds rs) rs
 
+-- 11: a record of the bank ends at or before the location
+abbrev pub endsBy : ℕ → ℕ → Record → Bool
+endsBy bank location r = not (eqb (r .bank) bank) || leb (locationsEnd r) (location + 1)
+
 -- 11, the stored byte at 0x00: 3..254 and not below the bank's highest mapped location
 unfoldable pub headByteHolds : List Record → ℕ → ℕ → Bool
-headByteHolds rs bank byte =
-    (leb 3 byte && leb byte 254) && every (λ r. not (eqb (r .bank) bank) || leb (locationsEnd r) (byte + 1)) rs
+headByteHolds rs bank byte = (leb 3 byte && leb byte 254) && every (endsBy bank byte) rs
+
+unfoldable pub headHolds : List Record → List ℕ → Record → Bool
+headHolds rs store r = not (isHead r) || headByteHolds rs (r .bank) (getD store (r .offset) 0)
 
 unfoldable pub headBytesHold : List Record → List ℕ → Bool
-headBytesHold rs store = every (λ r. not (isHead r) || headByteHolds rs (r .bank) (getD store (r .offset) 0)) rs
+headBytesHold rs store = every (headHolds rs store) rs
 
 -- the tests of map, store and reset image, in paper 01's order. Of the image only the length counts
 abbrev pub checkTests : List ℕ → List ℕ → ℕ → List Test

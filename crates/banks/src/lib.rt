@@ -1,6 +1,6 @@
 // A map, a store, a reset image: records, the rules 7 to 11, look-up, a value's part.
 mod record; // a record of the map
-mod rules; // the rules 7 to 9
+mod rules; // the rules 7 to 11
 mod holder; // which record holds a location
 mod looked; // the look calls
 
@@ -14,3 +14,7 @@ pub use record::locations_end;
 pub use record::places_end;
 pub use record::record_at;
 pub use record::records;
+pub use rules::banks_hold;
+pub use rules::check;
+pub use rules::check_number;
+pub use rules::head_bytes_hold;

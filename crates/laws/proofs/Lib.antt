@@ -4,5 +4,8 @@ pub mod Trailing
 pub mod Table
 pub mod Items
 pub mod Parts
+pub mod Copies
 pub mod Numbers
 pub mod Settled
+pub mod Sides
+pub mod Members

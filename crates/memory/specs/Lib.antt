@@ -1,3 +1,4 @@
+pub mod Reach
 pub mod Staged
 pub mod Latched
 pub mod Filled

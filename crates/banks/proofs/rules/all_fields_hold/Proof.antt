@@ -2,7 +2,7 @@ use Prim.Native.Nat.{_-_, _/_}
 use mathlib.Core.Path.{_≡_, ap, sym, _∙_}
 use native.Mathlib.Omega.{arith}
 use borrow.Author.Needs.{needs}
-use borrow.Author.Tests.{not-true, not-false}
+use Rattle.laws.proofs.Sides.{failed, passed}
 use lib.ListN.{length}
 use Rattle.laws.specs.Lists.{every}
 use Rattle.banks.specs.Map.{recordsOf}
@@ -40,7 +40,7 @@ fields-hold-requires c κs = search needs
 
 -- src/rules.rt:46:13
 returns : tie.Need-returns Inv-loop μ-loop
-returns c = sym (c .before .before .before .before .loop .inv .1 ∙ every-fails _ _ _ (c .before .before .before .loop-test .taken) _ (c .before .before .record-at .ensures) _ (sym (c .before .fields-hold .ensures) ∙ not-true _ (c .if1 .taken)))
+returns c = sym (c .before .before .before .before .loop .inv .1 ∙ every-fails _ _ _ (c .before .before .before .loop-test .taken) _ (c .before .before .record-at .ensures) _ (failed (c .before .fields-hold .ensures) (c .if1 .taken)))
 
 -- src/rules.rt:48:9
 add-i : tie.Need-add-i Inv-loop μ-loop
@@ -52,7 +52,7 @@ loop-less c = omega arith
 
 -- src/rules.rt:43:5
 loop-again : tie.Need-loop-again Inv-loop μ-loop
-loop-again c = (c .before .before .before .before .loop .inv .0, c .before .before .before .before .loop .inv .1 ∙ every-goes-on _ _ _ (c .before .before .before .loop-test .taken) _ (c .before .before .record-at .ensures) _ (sym (c .before .fields-hold .ensures) ∙ not-false _ (c .if1 .left)))
+loop-again c = (c .before .before .before .before .loop .inv .0, c .before .before .before .before .loop .inv .1 ∙ every-goes-on _ _ _ (c .before .before .before .loop-test .taken) _ (c .before .before .record-at .ensures) _ (passed (c .before .fields-hold .ensures) (c .if1 .left)))
 
 -- src/rules.rt:38:1
 returns-2 : tie.Need-returns-2 Inv-loop μ-loop

@@ -2,7 +2,7 @@ use Prim.Native.Nat.{_-_, _/_}
 use mathlib.Core.Path.{_≡_, ap, sym, _∙_}
 use native.Mathlib.Omega.{arith}
 use borrow.Author.Needs.{needs}
-use borrow.Author.Tests.{not-true, not-false}
+use Rattle.laws.proofs.Sides.{failed, passed}
 use lib.ListN.{length}
 use Rattle.banks.specs.Map.{recordsOf}
 use Rattle.banks.specs.Rules.{risingFrom, rising}
@@ -47,7 +47,7 @@ stands-before-requires c κs = search needs
 
 -- src/rules.rt:74:13
 returns-2 : tie.Need-returns-2 Inv-loop μ-loop
-returns-2 c = sym (c .before .before .before .before .loop .inv .1 ∙ rising-fails _ _ _ (c .before .before .before .loop-test .taken) _ (c .before .before .record-at2 .ensures) _ (sym (c .before .stands-before .ensures) ∙ not-true _ (c .if2 .taken)))
+returns-2 c = sym (c .before .before .before .before .loop .inv .1 ∙ rising-fails _ _ _ (c .before .before .before .loop-test .taken) _ (c .before .before .record-at2 .ensures) _ (failed (c .before .stands-before .ensures) (c .if2 .taken)))
 
 -- src/rules.rt:77:9
 add-i : tie.Need-add-i Inv-loop μ-loop
@@ -59,7 +59,7 @@ loop-less c = omega arith
 
 -- src/rules.rt:71:5
 loop-again : tie.Need-loop-again Inv-loop μ-loop
-loop-again c = (c .before .before .before .before .loop .inv .0, c .before .before .before .before .loop .inv .1 ∙ rising-goes-on _ _ _ (c .before .before .before .loop-test .taken) _ (c .before .before .record-at2 .ensures) _ (sym (c .before .stands-before .ensures) ∙ not-false _ (c .if2 .left)))
+loop-again c = (c .before .before .before .before .loop .inv .0, c .before .before .before .before .loop .inv .1 ∙ rising-goes-on _ _ _ (c .before .before .before .loop-test .taken) _ (c .before .before .record-at2 .ensures) _ (passed (c .before .stands-before .ensures) (c .if2 .left)))
 
 -- src/rules.rt:62:1
 returns-3 : tie.Need-returns-3 Inv-loop μ-loop
