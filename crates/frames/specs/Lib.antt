@@ -2,3 +2,6 @@ pub mod Values
 pub mod Kind
 pub mod Read
 pub mod Write
+pub mod Compose
+pub mod Promises
+pub mod Refusals

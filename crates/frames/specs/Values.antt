@@ -41,6 +41,14 @@ targetAt kind n =
     else if eqb kind 11 then Targeted.At Target.InstanceBroadcast
     else Targeted.Reserved
 
+unfoldable pub schemeAt : ℕ → Scheme
+schemeAt n =
+    if eqb n 0 then Scheme.TypeNumber
+    else if eqb n 1 then Scheme.ShortType
+    else if eqb n 2 then Scheme.ShortNumber
+    else if eqb n 3 then Scheme.GroupType
+    else Scheme.PrimaryType
+
 abbrev pub fieldPresent : Field → ℕ
 fieldPresent Field.Blank = 0
 fieldPresent (Field.Holds v) = 1
@@ -48,3 +56,12 @@ fieldPresent (Field.Holds v) = 1
 abbrev pub fieldValue : Field → ℕ
 fieldValue Field.Blank = 0
 fieldValue (Field.Holds v) = v
+
+-- the number of an answer: 0 where it is no refusal
+abbrev pub readingNumber : Reading → ℕ
+readingNumber (Reading.Got m) = 0
+readingNumber (Reading.Refused n) = n
+
+abbrev pub writingNumber : Writing → ℕ
+writingNumber (Writing.Frame f) = 0
+writingNumber (Writing.Refused n) = n

@@ -4,7 +4,10 @@ mod values; // the number and the values of each case
 mod kinds; // the table of kinds
 mod reader; // from a frame to a message
 mod writer; // from a message to a frame
+mod composer; // events, composed
 
+pub use composer::compose_event;
+pub use composer::compose_power;
 pub use message::Address;
 pub use message::Addressed;
 pub use message::Field;

@@ -84,9 +84,9 @@ pub enum Fielded {
     NotBlank,
 }
 
-// What an event is composed from. 255 in primary and short: missing; in scheme: as shipped.
+// What an event is composed from; `sort` is its type, a word that the language keeps. 255 in primary and short: missing; in scheme: as shipped.
 pub struct Source {
-    pub event_type: u8,
+    pub sort: u8,
     pub number: u8,
     pub primary: u8,
     pub short: u8,

@@ -1,8 +1,9 @@
 // The number and the values of each case of the enums, and back.
 ghost use mathlib.Core.Path.{_≡_};
 ghost use Prim.Native.Nat.{_<_};
-ghost use Rattle.frames.specs.Values.{targetNumber, targetAt, fieldPresent, fieldValue};
+ghost use Rattle.frames.specs.Values.{targetNumber, targetAt, schemeAt, fieldPresent, fieldValue};
 use crate::message::Field;
+use crate::message::Scheme;
 use crate::message::Target;
 use crate::message::Targeted;
 
@@ -40,6 +41,18 @@ pub fn target_at(kind: u8, number: u8) -> Targeted
         10 => Targeted::At(Target::Device),
         11 => Targeted::At(Target::InstanceBroadcast),
         _ => Targeted::Reserved,
+    }
+}
+
+pub fn scheme_at(number: u8) -> Scheme
+    ensures { λ r. ⌜ r ≡ schemeAt number ⌝ }
+{
+    match number {
+        0 => Scheme::TypeNumber,
+        1 => Scheme::ShortType,
+        2 => Scheme::ShortNumber,
+        3 => Scheme::GroupType,
+        _ => Scheme::PrimaryType,
     }
 }
 

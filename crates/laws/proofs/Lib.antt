@@ -9,3 +9,4 @@ pub mod Numbers
 pub mod Settled
 pub mod Sides
 pub mod Members
+pub mod Counts

@@ -5,3 +5,4 @@ pub mod Parts
 pub mod Numbers
 pub mod Outcome
 pub mod Settled
+pub mod Counts

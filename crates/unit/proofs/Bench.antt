@@ -17,7 +17,7 @@ use Rattle.memory.specs.Staged.{unlocked, taken, bytesWith, takeByte, writeAt, 
 use Rattle.memory.specs.Latched.{latchFrom, showByte, readAt}
 use Rattle.memory.specs.Latched.{readOf as shownOf}
 use Rattle.memory.specs.Filled.{selects, chosen, fresh, filledOf}
-use Rattle.memory.specs.Rooms.{stagedIn, stagedHolds, latchIn, latchHolds}
+use Rattle.memory.specs.Rooms.{stagedIn, stagedHolds, latchedIn, latchHolds, zeroFrom}
 use Rattle.unit.specs.State.{withWho, withRegisters, withWaiting, withDoor, withLatch, poweredOn}
 use Rattle.unit.specs.Rules.{waitingHolds, doorHolds, stateHolds}
 use Rattle.unit.specs.Due.{dtrOf, withDtr, groupByte, groupWord, shortDue, writeDue, readDue, onceDue, pairDue}
@@ -49,7 +49,7 @@ unfolding unlocked taken bytesWith takeByte writeAt writeOf latchFrom showByte r
 storing = tt
 
 keeping : Unit {0}
-unfolding stagedIn stagedHolds latchIn latchHolds waitingHolds doorHolds stateHolds
+unfolding stagedIn stagedHolds latchedIn latchHolds zeroFrom waitingHolds doorHolds stateHolds
 keeping = tt
 
 rooms : Unit {0}
