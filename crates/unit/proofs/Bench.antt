@@ -9,7 +9,8 @@ use Rattle.frames.specs.Values.{targetAt}
 use Rattle.frames.specs.Read.{readOf, commandOf, addressOf, targetOf, eventOf, schemeOf, otherOf, fieldOf}
 use Rattle.frames.specs.Read.{powerOf as powerEventOf}
 use Rattle.banks.specs.Map.{recordAt, recordsOf}
-use Rattle.banks.specs.Rules.{sizeHolds, lengthsHold, placesHold, bankHolds, banksHold, headByteHolds, headBytesHold}
+use Rattle.banks.specs.Rules.{sizeHolds, lengthsHold, placesHold, bankHolds, banksHold, headByteHolds}
+use Rattle.banks.specs.Rules.{headHolds, headBytesHold}
 use Rattle.banks.specs.Lookup.{holder, ifFirst, beginner, valueOf, putValue, byteAt, lockByte}
 use Rattle.hearing.specs.Meaning.{deviceCommand, firstSpecial, specialCommand, meaningOf}
 use Rattle.hearing.specs.Pairs.{passed, inTime, completes}
@@ -33,11 +34,11 @@ unfolding bits kindOf targetAt readOf commandOf addressOf targetOf eventOf schem
 reading = tt
 
 checking : Unit {0}
-unfolding firstFailing recordAt recordsOf sizeHolds lengthsHold placesHold bankHolds banksHold headByteHolds headBytesHold
+unfolding sizeHolds lengthsHold placesHold bankHolds banksHold headByteHolds headHolds headBytesHold
 checking = tt
 
 looking : Unit {0}
-unfolding part put holder ifFirst beginner valueOf putValue byteAt lockByte
+unfolding firstFailing part put recordAt recordsOf holder ifFirst beginner valueOf putValue byteAt lockByte
 looking = tt
 
 meaning : Unit {0}
@@ -45,8 +46,12 @@ unfolding deviceCommand firstSpecial specialCommand meaningOf passed inTime comp
 meaning = tt
 
 storing : Unit {0}
-unfolding unlocked taken bytesWith takeByte writeAt writeOf latchFrom showByte readAt shownOf selects chosen fresh filledOf
+unfolding unlocked taken bytesWith takeByte writeAt writeOf latchFrom showByte readAt shownOf
 storing = tt
+
+filling : Unit {0}
+unfolding selects chosen fresh filledOf
+filling = tt
 
 keeping : Unit {0}
 unfolding stagedIn stagedHolds latchedIn latchHolds zeroFrom waitingHolds doorHolds stateHolds
@@ -65,7 +70,7 @@ unfolding quiet answering refusing stepNumber powerNumber startNumber stepOf pow
 calling = tt
 
 pub sheet-holds : Sheet-holds
-unfolding reading checking looking meaning storing keeping rooms acting calling
+unfolding reading checking looking meaning storing filling keeping rooms acting calling
 sheet-holds = (
   record { starts = refl; writes = refl; leaves = refl },
   (
