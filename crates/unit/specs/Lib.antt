@@ -3,4 +3,5 @@ pub mod Rules
 pub mod Due
 pub mod Step
 pub mod Run
+pub mod Promises
 pub mod Bench
