@@ -1,15 +1,14 @@
 -- Start, power-on and frame step as calls: settled, numbered exactly, and refused without a trace.
 -- Assumes nothing.
-use Prim.Native.Nat.{ℕ, _+_, _<_}
-use mathlib.Core.Path.{_≡_, refl, sym, ap, _∙_}
-use mathlib.Core.Bool.{Bool, true, false}
+use Prim.Native.Nat.{ℕ, _<_}
+use mathlib.Core.Path.{_≡_, refl, sym, _∙_}
+use mathlib.Core.Bool.{true}
 use mathlib.Core.List.{List}
 use native.Mathlib.Omega.{arith}
 use borrow.Author.Tests.{eq-eqb, ne-eqb}
-use lib.Dec.{eqb}
 use lib.ListN.{length}
 use Rattle.laws.specs.Numbers.{Test, firstFailing, numbered}
-use Rattle.laws.specs.Outcome.{Outcome, leaves}
+use Rattle.laws.specs.Outcome.{Outcome}
 use Rattle.laws.proofs.Numbers.{exactly-if, none-exactly-if}
 use Rattle.laws.proofs.Settled.{settles, settles-both}
 use Rattle.laws.proofs.Tests.{if-eq}
@@ -21,11 +20,13 @@ use Rattle.unit.specs.Step.{startTests, startNumber, startOf, powerTests
 use Rattle.unit.specs.Step.{stepTests, stepNumber, stepOf}
 use Rattle.unit.specs.State.{zeroState}
 use Rattle.unit.specs.Due.{dueOf}
-use Rattle.unit.specs.Promises.{GivenBy, numberOf, Refuses, Calls-settled, Calls-numbered, Calls-refused, Calls-accepted}
+use Rattle.unit.specs.Promises.{GivenBy, numberOf, Refuses, Calls-settled, Calls-numbered, Calls-refused}
+use Rattle.unit.specs.Promises.{Calls-accepted}
 use Rattle.unit.specs.declared.state.State.{State}
 use Rattle.unit.specs.declared.state.Stepped.{Stepped}
 use Rattle.unit.specs.declared.due.Due.{Due}
-use Rattle.unit.specs.declared.due.Due.the-variants.{Nothing, Waits, Opens, Resets, Becomes, Loads, Answers, Writes, Reads}
+use Rattle.unit.specs.declared.due.Due.the-variants.{Nothing, Waits, Opens, Resets, Becomes, Loads, Answers}
+use Rattle.unit.specs.declared.due.Due.the-variants.{Writes, Reads}
 
 pub calls-settled : Calls-settled
 calls-settled map store image =
@@ -93,7 +94,8 @@ calls-numbered map store image =
       start-replies = λ who. unless-number zeroState store (powerOf (recordsOf map) store image who) _ refl;
       power-replies = λ s. unless-number s store (powerOf (recordsOf map) store image (s .who)) _ refl;
       step-replies = λ s heard.
-          unless-number s store (frameOf (recordsOf map) store image s heard) _ (frame-number (recordsOf map) store image s heard);
+          unless-number s store (frameOf (recordsOf map) store image s heard) _
+          (frame-number (recordsOf map) store image s heard);
     }
 
 pub calls-refused : Calls-refused

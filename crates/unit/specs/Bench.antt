@@ -6,7 +6,6 @@ use mathlib.Core.Bool.{true}
 use mathlib.Core.List.{List, [], _∷_, _++_}
 use Rattle.laws.specs.Outcome.{Outcome}
 use Rattle.hearing.specs.Pairs.{passed}
-use Rattle.hearing.specs.declared.rooms.Heard.{Heard}
 use Rattle.hearing.specs.declared.rooms.Who.{Who}
 use Rattle.unit.specs.Step.{startOf}
 use Rattle.unit.specs.Run.{Input, hears, Run, runOf}

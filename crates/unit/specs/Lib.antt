@@ -4,4 +4,5 @@ pub mod Due
 pub mod Step
 pub mod Run
 pub mod Promises
+pub mod Leaving
 pub mod Bench

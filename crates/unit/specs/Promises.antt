@@ -1,10 +1,10 @@
--- What is proved of start, power-on and frame step as calls: their results are settled, each number is given exactly if,
--- a refusal changes nothing. Paper 01, "Refusal numbers" and "How the promises are judged".
+-- What is proved of start, power-on and frame step as calls: results are settled, each number is given exactly if, a
+-- refusal changes nothing. Paper 01, "Refusal numbers" and "How the promises are judged".
 -- Proved in proofs/Numbers.antt.
 -- Assumes nothing.
 use Prim.Native.Nat.{ℕ, _<_}
 use mathlib.Core.Path.{_≡_}
-use mathlib.Core.Bool.{Bool, true, false}
+use mathlib.Core.Bool.{true, false}
 use mathlib.Core.List.{List}
 use lib.ListN.{length}
 use Rattle.laws.specs.Lists.{every}
@@ -65,8 +65,10 @@ pub record Refuses (o : Outcome Stepped) (number : ℕ) (s : State) (store : Lis
 
 pub record Refused (map store image : List ℕ) (n : ℕ) : Type 0 where
   -- a refused start's state is all zeros
-  pub start : (who : Who) → startNumber map store (length image) who ≡ n → Refuses (startOf map store image who) n zeroState store
-  pub power-on : (s : State) → powerNumber map store (length image) s ≡ n → Refuses (powerOnOf map store image s) n s store
+  pub start : (who : Who) → startNumber map store (length image) who ≡ n
+      → Refuses (startOf map store image who) n zeroState store
+  pub power-on : (s : State) → powerNumber map store (length image) s ≡ n
+      → Refuses (powerOnOf map store image s) n s store
   pub step : (s : State) (heard : Heard) → stepNumber map store (length image) s (heard .frame) ≡ n
       → Refuses (stepOf map store image s heard) n s store
 
