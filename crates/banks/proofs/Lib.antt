@@ -3,3 +3,4 @@ pub mod Members
 pub mod Locations
 pub mod HeadsAndLocks
 pub mod Standing
+pub mod Looks

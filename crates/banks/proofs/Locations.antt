@@ -96,3 +96,18 @@ holder-within map n bank location p r e =
       fields = member-fields map (placed-ordered map n p) r (k .0);
       inside = member-inside map n p r (k .0);
     }
+
+-- the value that begins at a location is the one that holds it, where it begins there
+if-first-at : (location : ℕ) (f : Found) (r : Record) → ifFirst location f ≡ At r → (f ≡ At r) × (r .first ≡ location)
+unfolding ifFirst
+if-first-at location (At x) r e =
+    ⊎-elim
+    (λ q. (q .1, let same : r ≡ x = cc in ap (λ (y : Record). y .first) same ∙ eqb-true (x .first) location (q .0)))
+    (λ q. let z : _≡_ {A = ℕ} 0 1 = cc in absurd (omega arith))
+    (chosen (eqb (x .first) location) e)
+if-first-at location Nothing r e = let z : _≡_ {A = ℕ} 0 1 = cc in absurd (omega arith)
+
+pub beginner-at : (rs : List Record) (bank location : ℕ) (r : Record) → beginner rs bank location ≡ At r
+    → (holder rs bank location ≡ At r) × (r .first ≡ location)
+unfolding beginner
+beginner-at rs bank location r e = if-first-at location (holder rs bank location) r e

@@ -1,6 +1,66 @@
-// The look calls.
+// The look calls: the stored bytes of a value that begins at a given bank and location. They have no image, and take the store for it.
+ghost use mathlib.Core.Path.{_≡_};
+ghost use Rattle.banks.specs.Look.{lookNumber, refusedLook, placeOf, lookOf, lookBytes};
+use crate::holder::Found;
+use crate::holder::beginner;
+use crate::rules::check_number;
+
+// The number of a look, and the place of the value; a refusal has no place.
 pub struct Looked {
     pub number: u8,
     pub width: u8,
     pub offset: u16,
+}
+
+fn refused(number: u8) -> Looked
+    ensures { λ r. ⌜ r ≡ refusedLook number ⌝ }
+{
+    Looked {
+        number: number,
+        width: 0,
+        offset: 0,
+    }
+}
+
+fn place_of(found: Found) -> Looked
+    ensures { λ r. ⌜ r ≡ placeOf found ⌝ }
+{
+    match found {
+        Found::At(r) => Looked {
+            number: 0,
+            width: r.width,
+            offset: r.offset,
+        },
+        Found::Nothing => refused(14),
+    }
+}
+
+// Number, width and offset of the value that begins at the bank and location.
+pub fn look_at(map: &[u8], store: &[u8], bank: u8, location: u8) -> Looked
+    ensures { λ r. ⌜ r ≡ lookOf (now (map .entry)) (now (store .entry)) bank location ⌝ }
+{
+    let number = check_number(map, store, store.len());
+    if number != 0 {
+        return refused(number);
+    }
+    let found = beginner(map, bank, location);
+    place_of(found)
+}
+
+// The number of a look: 7 to 11, then 14, or 0.
+pub fn look_number(map: &[u8], store: &[u8], bank: u8, location: u8) -> u8
+    ensures { λ r. ⌜ r ≡ lookNumber (now (map .entry)) (now (store .entry)) bank location ⌝ }
+{
+    let looked = look_at(map, store, bank, location);
+    looked.number
+}
+
+// The stored bytes themselves, no copy: a part of the lent store, and the empty part on refusal.
+pub fn look<'a>(map: &[u8], store: &'a [u8], bank: u8, location: u8) -> &'a [u8]
+    ensures { λ r. ⌜ now r ≡ lookBytes (now (map .entry)) (now (store .entry)) bank location ⌝ }
+{
+    let looked = look_at(map, store, bank, location);
+    let offset = looked.offset as usize;
+    let end = offset + looked.width as usize;
+    &store[offset..end]
 }

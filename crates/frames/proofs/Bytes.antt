@@ -51,16 +51,14 @@ pub address-forth : (a : Address) → addressFits a ≡ true →
 unfolding addressOf
 address-forth (Address.Short n) f =
     let h : n < 64 = ltb-true n 64 f in
-    let b : ℕ = n * 2 + 1 in
-    (
+    let b : ℕ = n * 2 + 1 in (
       simp (bits-is b 7 7 0 0 b (omega arith) (omega arith) (omega arith), bits-is b 6 1 0 n 1 (omega arith) (omega arith) (omega arith)),
       omega arith,
       omega arith,
     )
 address-forth (Address.Group n) f =
     let h : n < 32 = ltb-true n 32 f in
-    let b : ℕ = 0x81 + n * 2 in
-    (
+    let b : ℕ = 0x81 + n * 2 in (
       simp (
         bits-is b 7 7 0 1 (n * 2 + 1) (omega arith) (omega arith) (omega arith),
         bits-is b 7 6 0 2 (n * 2 + 1) (omega arith) (omega arith) (omega arith),
@@ -97,8 +95,7 @@ range-forth : (t : ℕ → Target) (first kind : ℕ) → ((n : ℕ) → targetA
 unfolding targetOf
 range-forth t first kind named right whole small n f =
     let h : n < 32 = ltb-true n 32 f in
-    let e : (first + n) % 32 ≡ n = omega arith in
-    (
+    let e : (first + n) % 32 ≡ n = omega arith in (
       simp (eqb-true (kindOf (first + n)) kind (at-each (λ n. eqb (kindOf (first + n)) kind) 32 right n h), e) (named n),
       omega arith,
     )

@@ -1,3 +1,5 @@
 pub mod Bytes
 pub mod Round
 pub mod Refusals
+pub mod Composed
+pub mod Bench

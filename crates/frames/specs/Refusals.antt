@@ -12,7 +12,9 @@ use Rattle.frames.specs.Kind.{kindOf}
 use Rattle.frames.specs.Values.{readingNumber, writingNumber}
 use Rattle.frames.specs.Read.{shortForm, groupForm, specialForm, readOf}
 use Rattle.frames.specs.Write.{messageFits, writeOf}
+use Rattle.frames.specs.Compose.{sourceFits, composeOf, powerFits, composePowerOf}
 use Rattle.frames.specs.declared.message.Message.{Message}
+use Rattle.frames.specs.declared.message.Source.{Source}
 
 -- bit 16 set means command, clear means event
 unfoldable pub isCommand : ℕ → Bool
@@ -74,6 +76,18 @@ writerTests m = test 6 (messageFits m) ∷ []
 
 abbrev pub WriterNumbers : Type 0
 WriterNumbers = (m : Message) → writingNumber (writeOf m) ≡ firstFailing (writerTests m)
+
+abbrev pub composerTests : Source → List Test
+composerTests e = test 6 (sourceFits e) ∷ []
+
+abbrev pub ComposerNumbers : Type 0
+ComposerNumbers = (e : Source) → writingNumber (composeOf e) ≡ firstFailing (composerTests e)
+
+abbrev pub powerTests : ℕ → ℕ → List Test
+powerTests short groups = test 6 (powerFits short groups) ∷ []
+
+abbrev pub PowerNumbers : Type 0
+PowerNumbers = (short groups : ℕ) → writingNumber (composePowerOf short groups) ≡ firstFailing (powerTests short groups)
 
 -- the other 14 odd bytes are reserved
 abbrev pub Reserved14 : Type 0

@@ -11,7 +11,40 @@ use Rattle.frames.specs.declared.message.Target.{Target}
 use Rattle.frames.specs.declared.message.Targeted.{Targeted}
 use Rattle.frames.specs.declared.message.Writing.{Writing}
 
--- what has no number is 0
+-- what has no number has 0
+abbrev pub addressKind : Address → ℕ
+addressKind (Address.Short n) = 0
+addressKind (Address.Group n) = 1
+addressKind Address.Unaddressed = 2
+addressKind Address.Broadcast = 3
+
+abbrev pub addressNumber : Address → ℕ
+addressNumber (Address.Short n) = n
+addressNumber (Address.Group n) = n
+addressNumber Address.Unaddressed = 0
+addressNumber Address.Broadcast = 0
+
+unfoldable pub addressAt : ℕ → ℕ → Address
+addressAt kind n =
+    if eqb kind 0 then Address.Short n
+    else if eqb kind 1 then Address.Group n
+    else if eqb kind 2 then Address.Unaddressed
+    else Address.Broadcast
+
+-- a target's kind is its number in the table of kinds
+abbrev pub targetKind : Target → ℕ
+targetKind (Target.InstanceNumber n) = 1
+targetKind (Target.InstanceGroup n) = 2
+targetKind (Target.InstanceType n) = 3
+targetKind (Target.FeatureAtNumber n) = 4
+targetKind (Target.FeatureAtGroup n) = 5
+targetKind (Target.FeatureAtType n) = 6
+targetKind Target.FeatureBroadcast = 7
+targetKind Target.DeviceFeature = 8
+targetKind Target.FeatureAtInstanceBroadcast = 9
+targetKind Target.Device = 10
+targetKind Target.InstanceBroadcast = 11
+
 abbrev pub targetNumber : Target → ℕ
 targetNumber (Target.InstanceNumber n) = n
 targetNumber (Target.InstanceGroup n) = n
@@ -25,7 +58,6 @@ targetNumber Target.FeatureAtInstanceBroadcast = 0
 targetNumber Target.Device = 0
 targetNumber Target.InstanceBroadcast = 0
 
--- the target of a kind of the table, with its number
 unfoldable pub targetAt : ℕ → ℕ → Targeted
 targetAt kind n =
     if eqb kind 1 then Targeted.At (Target.InstanceNumber n)
@@ -40,6 +72,13 @@ targetAt kind n =
     else if eqb kind 10 then Targeted.At Target.Device
     else if eqb kind 11 then Targeted.At Target.InstanceBroadcast
     else Targeted.Reserved
+
+abbrev pub schemeNumber : Scheme → ℕ
+schemeNumber Scheme.TypeNumber = 0
+schemeNumber Scheme.ShortType = 1
+schemeNumber Scheme.ShortNumber = 2
+schemeNumber Scheme.GroupType = 3
+schemeNumber Scheme.PrimaryType = 4
 
 unfoldable pub schemeAt : ℕ → Scheme
 schemeAt n =
@@ -57,6 +96,9 @@ abbrev pub fieldValue : Field → ℕ
 fieldValue Field.Blank = 0
 fieldValue (Field.Holds v) = v
 
+unfoldable pub fieldAt : ℕ → ℕ → Field
+fieldAt present v = if eqb present 0 then Field.Blank else Field.Holds v
+
 -- the number of an answer: 0 where it is no refusal
 abbrev pub readingNumber : Reading → ℕ
 readingNumber (Reading.Got m) = 0
@@ -65,3 +107,8 @@ readingNumber (Reading.Refused n) = n
 abbrev pub writingNumber : Writing → ℕ
 writingNumber (Writing.Frame f) = 0
 writingNumber (Writing.Refused n) = n
+
+-- and the frame, 0 where there is none
+abbrev pub writingFrame : Writing → ℕ
+writingFrame (Writing.Frame f) = f
+writingFrame (Writing.Refused n) = 0

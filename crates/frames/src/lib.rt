@@ -5,6 +5,7 @@ mod kinds; // the table of kinds
 mod reader; // from a frame to a message
 mod writer; // from a message to a frame
 mod composer; // events, composed
+mod words; // a reading as one number, and back
 
 pub use composer::compose_event;
 pub use composer::compose_power;
@@ -21,4 +22,6 @@ pub use message::Target;
 pub use message::Targeted;
 pub use message::Writing;
 pub use reader::read;
+pub use words::message_of;
+pub use words::word_of;
 pub use writer::write;

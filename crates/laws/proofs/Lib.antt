@@ -7,6 +7,8 @@ pub mod Parts
 pub mod Copies
 pub mod Numbers
 pub mod Settled
+pub mod Counts
+pub mod Powers
 pub mod Sides
 pub mod Members
-pub mod Counts
+pub mod Joined

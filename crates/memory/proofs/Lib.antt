@@ -1,2 +1,5 @@
 pub mod Zeros
 pub mod Reaching
+pub mod Writes
+pub mod Run
+pub mod StagedRoom

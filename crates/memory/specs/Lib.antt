@@ -3,3 +3,4 @@ pub mod Staged
 pub mod Latched
 pub mod Filled
 pub mod Rooms
+pub mod Promises

@@ -56,9 +56,13 @@ takeByte store g r k byte =
 abbrev pub dropped : List ℕ → Outcome Wrote
 dropped store = leaves (wrote false noneStaged) store
 
-unfoldable pub writeAt : List Record → List ℕ → Staged → ℕ → ℕ → Found → Outcome Wrote
-writeAt rs store g location byte (At r) =
+-- a write at a location of the value
+unfoldable pub writeFound : List Record → List ℕ → Staged → Record → ℕ → ℕ → Outcome Wrote
+writeFound rs store g r location byte =
     if taken rs store g r location then takeByte store g r (location - r .first) byte else dropped store
+
+unfoldable pub writeAt : List Record → List ℕ → Staged → ℕ → ℕ → Found → Outcome Wrote
+writeAt rs store g location byte (At r) = writeFound rs store g r location byte
 writeAt rs store g location byte Nothing = dropped store
 
 -- an executed write of the byte at the bank and location
