@@ -1,9 +1,13 @@
 -- The bench sheet holds: each line is computed.
 -- Assumes nothing.
 use mathlib.Core.Path.{refl}
+use mathlib.Core.List.{List, [], _∷_, _++_, map}
 use Rattle.laws.specs.Bits.{bits}
 use Rattle.laws.specs.Numbers.{firstFailing}
 use Rattle.laws.specs.Parts.{part, put}
+use Rattle.frames.specs.Bench.{Case, AllHold}
+use Rattle.frames.specs.Bench.{sheet as framesSheet}
+use Rattle.frames.proofs.Bench.{sheet-holds as frames-hold}
 use Rattle.frames.specs.Kind.{kindOf}
 use Rattle.frames.specs.Values.{targetAt}
 use Rattle.frames.specs.Read.{readOf, commandOf, addressOf, targetOf, eventOf, schemeOf, otherOf, fieldOf}
@@ -14,7 +18,7 @@ use Rattle.banks.specs.Rules.{headHolds, headBytesHold}
 use Rattle.banks.specs.Lookup.{holder, ifFirst, beginner, valueOf, putValue, byteAt, lockByte}
 use Rattle.hearing.specs.Meaning.{deviceCommand, firstSpecial, specialCommand, meaningOf}
 use Rattle.hearing.specs.Pairs.{passed, inTime, completes}
-use Rattle.memory.specs.Staged.{unlocked, taken, bytesWith, takeByte, writeAt, writeOf}
+use Rattle.memory.specs.Staged.{unlocked, taken, bytesWith, takeByte, writeFound, writeAt, writeOf}
 use Rattle.memory.specs.Latched.{latchFrom, showByte, readAt}
 use Rattle.memory.specs.Latched.{readOf as shownOf}
 use Rattle.memory.specs.Filled.{selects, chosen, fresh, filledOf}
@@ -26,7 +30,7 @@ use Rattle.unit.specs.Due.{dueBy, dueOf}
 use Rattle.unit.specs.Step.{quiet, answering, refusing, hearing, raised, written, readBy, done, frameOf, powerOf}
 use Rattle.unit.specs.Step.{stepNumber, powerNumber, startNumber, stepOf, powerOnOf, startOf}
 use Rattle.unit.specs.Run.{inputOf, outputOf, runOf}
-use Rattle.unit.specs.Bench.{Sheet-holds}
+use Rattle.unit.specs.Bench.{Line, says, Hold, p11, p12, late, overrun, SheetHolds}
 
 -- what each floor computes with: to unfold one of these is to unfold all on its line
 reading : Unit {0}
@@ -46,7 +50,7 @@ unfolding deviceCommand firstSpecial specialCommand meaningOf passed inTime comp
 meaning = tt
 
 storing : Unit {0}
-unfolding unlocked taken bytesWith takeByte writeAt writeOf latchFrom showByte readAt shownOf
+unfolding unlocked taken bytesWith takeByte writeFound writeAt writeOf latchFrom showByte readAt shownOf
 storing = tt
 
 filling : Unit {0}
@@ -69,15 +73,18 @@ calling : Unit {0}
 unfolding quiet answering refusing stepNumber powerNumber startNumber stepOf powerOnOf startOf inputOf outputOf runOf
 calling = tt
 
-pub sheet-holds : Sheet-holds
+runs-hold : Hold (p11 ∷ p12 ∷ late ∷ overrun ∷ [])
 unfolding reading checking looking meaning storing filling keeping rooms acting calling
-sheet-holds = (
-  record { starts = refl; writes = refl; leaves = refl },
-  (
-    record { starts = refl; writes = refl; leaves = refl },
-    (
-      (record { starts = refl; writes = refl; leaves = refl }, refl, refl),
-      ((refl, refl), tt),
-    ),
-  ),
-)
+runs-hold =
+    (record { starts = refl; writes = refl; leaves = refl },
+    (record { starts = refl; writes = refl; leaves = refl },
+    ((record { starts = refl; writes = refl; leaves = refl }, refl, refl),
+    ((refl, refl), tt))))
+
+-- the frames' lines first
+both-hold : (cases : List Case) (lines : List Line) → AllHold cases → Hold lines → Hold (map says cases ++ lines)
+both-hold [] lines p q = q
+both-hold (c ∷ cases) lines p q = (p .0, both-hold cases lines (p .1) q)
+
+pub sheet-holds : SheetHolds
+sheet-holds = both-hold framesSheet (p11 ∷ p12 ∷ late ∷ overrun ∷ []) frames-hold runs-hold

@@ -1,10 +1,13 @@
--- The bench sheet's runs. Paper 01, "Bench sheet". Proved in proofs/Bench.antt.
+-- The bench sheet, P1 to P12 and the two lines after them, as one table and one statement. Paper 01, "Bench sheet".
+-- Proved in proofs/Bench.antt.
 -- Assumes nothing.
 use Prim.Native.Nat.{ℕ}
 use mathlib.Core.Path.{_≡_}
 use mathlib.Core.Bool.{true}
-use mathlib.Core.List.{List, [], _∷_, _++_}
+use mathlib.Core.List.{List, [], _∷_, _++_, map}
 use Rattle.laws.specs.Outcome.{Outcome}
+use Rattle.frames.specs.Bench.{Case, CaseHolds}
+use Rattle.frames.specs.Bench.{sheet as framesSheet}
 use Rattle.hearing.specs.Pairs.{passed}
 use Rattle.hearing.specs.declared.rooms.Who.{Who}
 use Rattle.unit.specs.Step.{startOf}
@@ -54,6 +57,8 @@ answer byte = 0 ∷ 1 ∷ byte ∷ 0 ∷ []
 
 -- a line of the sheet
 pub data Line : Type 0 where
+  -- a frame, read, written, composed or refused
+  says : Case → Line
   -- a run from the start: what is written for its frames, and the store at the end
   runs : List Input → (output store : List ℕ) → Line
   -- a run from the start: its output, the store, DTR0 and DTR1 at the end
@@ -68,6 +73,7 @@ pub record Runs (inputs : List Input) (output store : List ℕ) : Type 0 where
   pub leaves : benchRun inputs .store ≡ store
 
 abbrev pub Holds : Line → Type 0
+Holds (says case) = CaseHolds case
 Holds (runs inputs output store) = Runs inputs output store
 Holds (leads inputs output store dtr0 dtr1) =
     Runs inputs output store
@@ -105,8 +111,9 @@ late =
 abbrev pub overrun : Line
 overrun = pairs 4294967250 50 96
 
+-- P1 to P10 are the lines of the frames' own sheet
 abbrev pub sheet : List Line
-sheet = p11 ∷ p12 ∷ late ∷ overrun ∷ []
+sheet = map says framesSheet ++ p11 ∷ p12 ∷ late ∷ overrun ∷ []
 
-abbrev pub Sheet-holds : Type 0
-Sheet-holds = Hold sheet
+abbrev pub SheetHolds : Type 0
+SheetHolds = Hold sheet

@@ -5,4 +5,5 @@ pub mod Step
 pub mod Run
 pub mod Promises
 pub mod Leaving
+pub mod Keeping
 pub mod Bench
