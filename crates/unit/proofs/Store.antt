@@ -1,16 +1,17 @@
 -- What a write, a reset and a power-on leave of the store: read-only values, bytes under no record, its length.
 -- Assumes nothing.
-use Prim.Native.Nat.{ℕ, _+_, _-_, _≤_, _<_}
+use Prim.Native.Nat.{ℕ, zero, suc, _+_, _-_, _≤_, _<_}
 use mathlib.Core.Path.{_≡_, refl, sym, ap, _∙_}
 use mathlib.Core.Logic.{_⊎_, inl, inr, ⊎-elim}
 use mathlib.Core.Bool.{Bool, true, false, not, _&&_, _||_}
-use mathlib.Core.List.{List, [], _∷_, List·Memᴰ, List·Memᴰ·head, List·Memᴰ·tail, List·Memᴰ·cases-cons}
+use mathlib.Core.List.{List, [], _∷_, _++_, List·Memᴰ, List·Memᴰ·head, List·Memᴰ·tail, List·Memᴰ·cases-cons}
 use native.Mathlib.Omega.{arith}
-use borrow.Author.Tests.{eqb-true, eq-eqb, ne-eqb, lt-ltb, le-leb}
-use lib.Dec.{eqb}
-use lib.ListN.{length, getD, take, drop, set, replicate, length-set}
-use lib.Seq.{getD-take, getD-drop, length-take-le}
+use borrow.Author.Tests.{eqb-true, leb-true, eq-eqb, ne-eqb, lt-ltb, le-leb}
+use lib.Dec.{leb, eqb}
+use lib.ListN.{length, getD, take, drop, set, replicate, length-set, length-append, length-replicate}
+use lib.Seq.{getD-take, getD-drop, drop-at, length-take-le}
 use Rattle.laws.specs.Choice.{if_then_else_}
+use Rattle.laws.specs.Lists.{every}
 use Rattle.laws.specs.Outcome.{Outcome}
 use Rattle.laws.specs.Parts.{part}
 use Rattle.laws.proofs.Parts.{part-put, part-stays, length-put, length-part}
@@ -29,7 +30,10 @@ use Rattle.banks.specs.declared.holder.Found.the-variants.{At, Nothing}
 use Rattle.banks.proofs.Locations.{holder-first, holder-within}
 use Rattle.memory.specs.Staged.{stagedOf, bytesWith, writeOf}
 use Rattle.memory.specs.Filled.{chosen, fresh, filledBy, filledOf}
-use Rattle.memory.specs.Rooms.{zeroFrom, stagedIn, stagedHolds}
+use Rattle.memory.specs.Latched.{noneLatched, padded, latchedOf, latchFrom, latches, showByte, readAt, readOf}
+use Rattle.memory.specs.Rooms.{zeroFrom, stagedIn, stagedHolds, latchedIn, latchHolds}
+use Rattle.memory.specs.declared.latched.Latch.{Latch}
+use Rattle.memory.specs.declared.latched.Shown.{Shown}
 use Rattle.memory.specs.declared.staged.Staged.{Staged}
 use Rattle.memory.specs.declared.staged.Wrote.{Wrote}
 use Rattle.memory.specs.declared.filled.Filling.{Filling}
@@ -52,6 +56,21 @@ unfolding valueOf part
 first-byte r s h =
     let e : r .offset + 0 ≡ r .offset = omega arith in
     sym (getD-take (r .width) (drop (r .offset) s) 0 0 h ∙ getD-drop (r .offset) s 0 0 ∙ rw e)
+
+zeros-replicate : (k : ℕ) → every (λ b. eqb b 0) (replicate k 0) ≡ true
+zeros-replicate zero = refl
+zeros-replicate (suc k) = zeros-replicate k
+
+-- eight bytes: the value's, and zeros behind them
+zero-padded : (value : List ℕ) (w : ℕ) → length value ≡ w → w ≤ 8 → zeroFrom w (padded value) ≡ true
+unfolding zeroFrom
+zero-padded value w l h =
+    let e : length (value ++ replicate (8 - length value) 0) ≡ 8 = simp (length-append, length-replicate) (omega arith) in
+    rw (eq-eqb _ 8 e, drop-at value (replicate (8 - length value) 0) w l) (zeros-replicate (8 - length value))
+
+pub none-latched-holds : (rs : List Record) → latchHolds rs noneLatched ≡ true
+unfolding latchHolds zeroFrom
+none-latched-holds rs = refl
 
 module _ (map : List ℕ) (n : ℕ) (p : placed map n ≡ true) where
   -- ---- one value put
@@ -79,7 +98,7 @@ module _ (map : List ℕ) (n : ℕ) (p : placed map n ≡ true) where
         go (inl h) = part-stays j 1 bytes store (r .offset) (inr (omega arith))
         go (inr h) = part-stays j 1 bytes store (r .offset) (inl (omega arith))
 
-  rest-same : (store : List ℕ) → RestStays map store store
+  pub rest-same : (store : List ℕ) → RestStays map store store
   rest-same store = record { read-only = λ r m e. refl; under-none = λ j u. refl; as-long = refl }
 
   -- a writable value put leaves the rest
@@ -234,13 +253,13 @@ module _ (map : List ℕ) (n : ℕ) (p : placed map n ≡ true) where
               zero-behind,
             )
 
-      write-rest : RestStays map store (wrote .store)
+      pub write-rest : RestStays map store (wrote .store)
       write-rest =
           write-cases (recordsOf map) store g bank location byte (λ o. RestStays map store (o .store)) (rest-same store)
           (λ r t w. rest-same store)
           (λ r t w. rest-put store store _ r (within r t .member) (took r t .writes) (whole r t) (rest-same store))
 
-      write-one : (wrote .store ≡ store) ⊎ OnlyOne map store (wrote .store)
+      pub write-one : (wrote .store ≡ store) ⊎ OnlyOne map store (wrote .store)
       write-one =
           write-cases (recordsOf map) store g bank location byte (λ o. (o .store ≡ store) ⊎ OnlyOne map store (o .store)) (inl refl)
           (λ r t w. inl refl)
@@ -253,9 +272,98 @@ module _ (map : List ℕ) (n : ℕ) (p : placed map n ≡ true) where
           }))
 
       -- what is staged then keeps the rule
-      staged-after : stagedHolds (recordsOf map) (wrote .store) (wrote .answer .staged) ≡ true
+      pub staged-after : stagedHolds (recordsOf map) (wrote .store) (wrote .answer .staged) ≡ true
       staged-after =
           write-cases (recordsOf map) store g bank location byte (λ o. stagedHolds (recordsOf map) (o .store) (o .answer .staged) ≡ true)
           (none-staged-holds (recordsOf map) store)
           (λ r t w. staged-more r t w)
           (λ r t w. none-staged-holds (recordsOf map) _)
+
+  -- ---- a byte read
+
+  module _ (store : List ℕ) (long : length store ≡ n) where
+    latched-holds : (r : Record) → Member r map → 2 ≤ r .width
+        → latchHolds (recordsOf map) (latchedOf r (valueOf r store)) ≡ true
+    unfolding latchHolds latchedIn beginner ifFirst valueOf
+    latched-holds r m w =
+        let o = placed-ordered map n p in
+        let i : placesEnd r ≤ n = member-inside map n p r m in
+        let f : r .width ≤ 8 = member-fields map o r m .most-width in
+        let v : length (part (r .offset) (r .width) store) ≡ r .width = length-part (r .offset) (r .width) store (omega arith) in
+        rw (holder-first map o r m, eq-eqb (r .first) (r .first) refl, le-leb 2 (r .width) w) 
+        (zero-padded (part (r .offset) (r .width) store) (r .width) v f)
+
+    -- what is latched then keeps the rule
+    pub latch-after : (l : Latch) (bank location : ℕ) → latchHolds (recordsOf map) l ≡ true
+        → latchHolds (recordsOf map) (readOf (recordsOf map) store l bank location .latch) ≡ true
+    unfolding readOf readAt showByte latchFrom
+    latch-after l bank location h = go (holder (recordsOf map) bank location) refl
+      where
+        go : (f : Found) → holder (recordsOf map) bank location ≡ f
+            → latchHolds (recordsOf map) (readAt store l location f .latch) ≡ true
+        go Nothing e = h
+        go (At r) e =
+            let m = holder-within map n bank location p r e .member in
+            if-by (λ (x : Shown). latchHolds (recordsOf map) (x .latch) ≡ true) (eqb (location - r .first) 0)
+            (λ z.
+            if-by (λ (x : Latch). latchHolds (recordsOf map) x ≡ true) (leb 2 (r .width))
+            (λ w. latched-holds r m (leb-true 2 (r .width) w)) (λ w. none-latched-holds (recordsOf map)))
+            (λ z. if-by (λ (x : Shown). latchHolds (recordsOf map) (x .latch) ≡ true) (latches l r) (λ q. h) (λ q. h))
+
+  -- ---- a reset and a power-on
+
+  chosen-writable : (store : List ℕ) (filling : Filling) (r : Record) → chosen (recordsOf map) store filling r ≡ true → writable r ≡ true
+  unfolding chosen
+  chosen-writable store PowerOn r e = rw e
+  chosen-writable store (Reset dtr0) r e = and-left (writable r) _ e
+
+  module _ (store image : List ℕ) (l : length store ≡ n) (k : length image ≡ n) (filling : Filling) where
+    pub filled-rest : RestStays map store (filledOf (recordsOf map) store image filling)
+    unfolding filledOf
+    filled-rest = fill-rest image k (chosen (recordsOf map) store filling) store (chosen-writable store filling)
+
+    pub filled-left : (v : Record) → Member v map → chosen (recordsOf map) store filling v ≡ false
+        → valueOf v (filledOf (recordsOf map) store image filling) ≡ valueOf v store
+    unfolding filledOf
+    filled-left = fill-left image k (chosen (recordsOf map) store filling) store
+
+    pub filled-fresh : (v : Record) → Member v map → chosen (recordsOf map) store filling v ≡ true
+        → valueOf v (filledOf (recordsOf map) store image filling) ≡ fresh image v
+    unfolding filledOf
+    filled-fresh v m e = fill-chosen image k (chosen (recordsOf map) store filling) store l v e (recordsOf map) (λ q j. j) m
+
+-- ---- the rules 7 to 11
+
+-- a record at 0x00 is not writable
+head-read-only : (r : Record) → isHead r ≡ true → writable r ≡ false
+head-read-only r e =
+    let z : r .kind ≡ 0 = search (and-left, and-right, eqb-true) in
+    rw z
+
+module _ (map store after : List ℕ) (kept : ℕ) (stands : Stands map store kept) (rest : RestStays map store after) where
+  heads-stay : headBytesHold (recordsOf map) after ≡ headBytesHold (recordsOf map) store
+  unfolding headBytesHold headHolds
+  heads-stay = every-same (headHolds (recordsOf map) after) (headHolds (recordsOf map) store) (recordsOf map) same
+    where
+      same : (r : Record) → Member r map → headHolds (recordsOf map) after r ≡ headHolds (recordsOf map) store r
+      same r m = go (isHead r) refl
+        where
+          go : (b : Bool) → isHead r ≡ b → headHolds (recordsOf map) after r ≡ headHolds (recordsOf map) store r
+          go true e =
+              let w : 1 ≤ r .width = member-fields map (stands .in-order) r m .some-width in
+              let v = rest .read-only r m (head-read-only r e) in
+              let b : getD after (r .offset) 0 ≡ getD store (r .offset) 0 =
+                  first-byte r after w ∙ ap (λ (l : List ℕ). getD l 0 0) v ∙ sym (first-byte r store w) in
+              rw b
+          go false e = rw e
+
+  -- 7 to 11 go on holding
+  pub stands-after : Stands map after kept
+  stands-after =
+      record {
+        in-order = stands .in-order;
+        in-place = rw (rest .as-long) (stands .in-place);
+        as-long = stands .as-long ∙ sym (rest .as-long);
+        banks = stands .banks;
+        heads = heads-stay ∙ stands .heads;
+      }
