@@ -71,7 +71,7 @@ state-holds rs store s h = rw (h .address, h .waiting, h .door, h .latch)
 -- ---- a frame step keeps rule 12
 
 -- nothing is staged behind a shut door, nor behind one just opened
-shut-holds : (rs : List Record) (store : List ℕ) (s : State) → s .door ≡ shutDoor → doorHolds rs store s ≡ true
+pub shut-holds : (rs : List Record) (store : List ℕ) (s : State) → s .door ≡ shutDoor → doorHolds rs store s ≡ true
 unfolding doorHolds
 shut-holds rs store s e = rw e (none-staged-holds rs store)
 
@@ -79,9 +79,10 @@ open-holds : (rs : List Record) (store : List ℕ) (s : State) → s .door ≡ o
 unfolding doorHolds
 open-holds rs store s e = rw e (none-staged-holds rs store)
 
-none-holds : (s : State) → s .waiting ≡ noneWaits → waitingHolds s ≡ true
-unfolding waitingHolds
-none-holds s e = rw e
+door-staged : (rs : List Record) (store : List ℕ) (s : State) → doorHolds rs store s ≡ true
+    → stagedHolds rs store (s .door .staged) ≡ true
+unfolding doorHolds
+door-staged rs store s e = and-right (s .door .enabled || eqb (s .door .staged .count) 0) _ e
 
 -- SET SHORT ADDRESS takes only an address
 short-holds : (dtr0 : ℕ) → (ltb dtr0 0x40 || eqb dtr0 255) ≡ true → addressHolds dtr0 ≡ true
@@ -106,8 +107,10 @@ module _ (map store image : List ℕ) (s : State) (heard : Heard) (place : place
   heard-door false = h .door
 
   staged : stagedHolds (recordsOf map) store (s .door .staged) ≡ true
-  unfolding doorHolds
-  staged = and-right (s .door .enabled || eqb (s .door .staged .count) 0) _ (h .door)
+  staged = door-staged (recordsOf map) store s (h .door)
+
+  pub heard-staged : (closing : Bool) → stagedHolds (recordsOf map) store (hearing s closing .door .staged) ≡ true
+  heard-staged closing = door-staged (recordsOf map) store (hearing s closing) (heard-door closing)
 
   nothing : (closing : Bool) → Kept closing Nothing
   unfolding Kept hearing done quiet withWaiting withDoor waitingHolds

@@ -72,6 +72,9 @@ pub none-latched-holds : (rs : List Record) → latchHolds rs noneLatched ≡ tr
 unfolding latchHolds zeroFrom
 none-latched-holds rs = refl
 
+pub rest-same : (map store : List ℕ) → RestStays map store store
+rest-same map store = record { read-only = λ r m e. refl; under-none = λ j u. refl; as-long = refl }
+
 module _ (map : List ℕ) (n : ℕ) (p : placed map n ≡ true) where
   -- ---- one value put
 
@@ -97,9 +100,6 @@ module _ (map : List ℕ) (n : ℕ) (p : placed map n ≡ true) where
         go : (j < r .offset) ⊎ (placesEnd r ≤ j) → part j 1 (putValue r bytes store) ≡ part j 1 store
         go (inl h) = part-stays j 1 bytes store (r .offset) (inr (omega arith))
         go (inr h) = part-stays j 1 bytes store (r .offset) (inl (omega arith))
-
-  pub rest-same : (store : List ℕ) → RestStays map store store
-  rest-same store = record { read-only = λ r m e. refl; under-none = λ j u. refl; as-long = refl }
 
   -- a writable value put leaves the rest
   rest-put : (store after bytes : List ℕ) (r : Record) → Member r map → writable r ≡ true → length bytes ≡ r .width
@@ -137,7 +137,7 @@ module _ (map : List ℕ) (n : ℕ) (p : placed map n ≡ true) where
 
       fill-rest : ((r : Record) → such r ≡ true → writable r ≡ true) → RestStays map store (filledBy such image store (recordsOf map))
       fill-rest w =
-          fill-keeps (RestStays map store) (rest-same store)
+          fill-keeps (RestStays map store) (rest-same map store)
           (λ r m e s k. rest-put store s (fresh image r) r m (w r e) (fresh-length r m) k) (recordsOf map) (λ q k. k)
 
       -- a value that is not chosen stays
@@ -255,9 +255,9 @@ module _ (map : List ℕ) (n : ℕ) (p : placed map n ≡ true) where
 
       pub write-rest : RestStays map store (wrote .store)
       write-rest =
-          write-cases (recordsOf map) store g bank location byte (λ o. RestStays map store (o .store)) (rest-same store)
-          (λ r t w. rest-same store)
-          (λ r t w. rest-put store store _ r (within r t .member) (took r t .writes) (whole r t) (rest-same store))
+          write-cases (recordsOf map) store g bank location byte (λ o. RestStays map store (o .store)) (rest-same map store)
+          (λ r t w. rest-same map store)
+          (λ r t w. rest-put store store _ r (within r t .member) (took r t .writes) (whole r t) (rest-same map store))
 
       pub write-one : (wrote .store ≡ store) ⊎ OnlyOne map store (wrote .store)
       write-one =
