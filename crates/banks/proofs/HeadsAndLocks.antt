@@ -1,23 +1,26 @@
 -- Rule 11: a bank's records at 0x00 and 0x02, as the look-up meets them.
 -- Assumes nothing.
 use mathlib.Core.Path.{_≡_, refl, ap, sym, _∙_}
+use mathlib.Core.Logic.{⊎-elim}
 use mathlib.Core.Bool.{Bool, true, false, not, _&&_, false≢true}
 use mathlib.Core.List.{List}
 use Prim.Native.Nat.{ℕ, _+_, _≤_, _<_}
 use native.Mathlib.Omega.{arith}
-use borrow.Author.Tests.{eqb-true, eq-eqb, ne-eqb}
+use borrow.Author.Tests.{eqb-true, eqb-false, eq-eqb, ne-eqb}
 use lib.Dec.{eqb}
-use Rattle.laws.specs.Lists.{some}
-use Rattle.laws.proofs.Tests.{both, and-of}
-use Rattle.laws.proofs.Sides.{and-left, and-right, same-test}
+use Rattle.laws.specs.Choice.{if_then_else_}
+use Rattle.laws.proofs.Tests.{both, and-of, clash, denied}
+use Rattle.laws.proofs.Items.{every-at}
+use Rattle.laws.proofs.Sides.{and-left, and-right, chosen, same-test}
 use Rattle.laws.proofs.Members.{some-at, some-of}
-use Rattle.banks.specs.Map.{recordsOf}
-use Rattle.banks.specs.Rules.{ordered, isHead, isLock, bankHas}
+use Rattle.banks.specs.Map.{recordsOf, writable}
+use Rattle.banks.specs.Rules.{ordered, isHead, isLock, bankHas, bankHolds, banksHold}
 use Rattle.banks.specs.Lookup.{holds, holder}
-use Rattle.banks.specs.Facts.{Member, Holds}
+use Rattle.banks.specs.Facts.{Member, Holds, LockRecord}
+use Rattle.banks.specs.Promises.{HasLock, WritableBank}
 use Rattle.banks.specs.declared.record.Record.{Record}
 use Rattle.banks.specs.declared.holder.Found.the-variants.{At, Nothing}
-use Rattle.banks.proofs.Locations.{holds-is, is-holding, holder-at, holder-none, holder-hit}
+use Rattle.banks.proofs.Locations.{holds-is, is-holding, holder-at, holder-none, holder-hit, mapped-member}
 
 -- a test that only a record of width 1 at that location passes
 abbrev Single : (Record → Bool) → ℕ → Type 0
@@ -60,3 +63,37 @@ module _ (such : Record → Bool) (location : ℕ) (single : Single such locatio
       let x = has-this t in
       sym (holder-none bank location (recordsOf map) e (x .0) (x .1)) ∙ is-holding (x .0) bank location (x .2))
       (λ t. absurd (false≢true t))
+
+lock-is : (map : List ℕ) (bank : ℕ) (r : Record) → Member r map → r .bank ≡ bank → isLock r ≡ true → LockRecord map bank r
+lock-is map bank r m b t =
+    record {
+      member = m;
+      its-bank = b;
+      its-first = search (and-left, and-right, eqb-true);
+      its-width = search (and-left, and-right, eqb-true);
+      its-kind = search (and-left, and-right, eqb-true);
+      no-lock = search (and-left, and-right, eqb-true);
+    }
+
+-- what rule 11 says of the bank of a record
+bank-said : (map : List ℕ) → banksHold (recordsOf map) ≡ true → (r : Record) → Member r map
+    → (if eqb (r .bank) 0 then not (writable r) else bankHas isLock (recordsOf map) (r .bank)) ≡ true
+unfolding banksHold bankHolds
+bank-said map b r m =
+    both (bankHas isHead (recordsOf map) (r .bank)) (if eqb (r .bank) 0 then not (writable r) else bankHas isLock (recordsOf map) (r .bank))
+    (every-at (bankHolds (recordsOf map)) (recordsOf map) b r m) .1
+
+pub has-lock : HasLock
+has-lock map o b bank h e =
+    let x = mapped-member map bank .0 e in
+    let other : (x .0 .bank ≡ 0 → ⊥) = λ z. omega (arith, x .2) in
+    let some : bankHas isLock (recordsOf map) (x .0 .bank) ≡ true = rw (ne-eqb (x .0 .bank) 0 other) at (bank-said map b (x .0) (x .1)) in
+    let l = has-this isLock 0x02 single-lock map bank (rw (x .2) at some) in
+    (l .0, lock-is map bank (l .0) (l .1) (l .2 .same-bank) (l .3), holder-hit map o bank 0x02 (l .0) (l .1) (l .2))
+
+pub writable-bank : WritableBank
+writable-bank map b r m w =
+    ⊎-elim
+    (λ q. clash (writable r) w (denied (writable r) (q .1)))
+    (λ q. let some : (r .bank ≡ 0 → ⊥) = eqb-false (r .bank) 0 (q .0) in omega arith)
+    (chosen (eqb (r .bank) 0) (bank-said map b r m))

@@ -4,3 +4,4 @@ pub mod Locations
 pub mod HeadsAndLocks
 pub mod Standing
 pub mod Looks
+pub mod Values

@@ -17,7 +17,8 @@ use Rattle.laws.proofs.Members.{some-at, some-of}
 use Rattle.banks.specs.Map.{recordsOf, mapped, locationsEnd}
 use Rattle.banks.specs.Rules.{before, risingFrom, rising, ordered, placed, bankHas}
 use Rattle.banks.specs.Lookup.{holds, holder, ifFirst, beginner}
-use Rattle.banks.specs.Facts.{Member, Before, Holds, Within}
+use Rattle.banks.specs.Facts.{Before, Holds}
+use Rattle.banks.specs.Promises.{HolderWithin, HolderHit, HolderNone, FirstFound, MappedMember}
 use Rattle.banks.specs.declared.record.Record.{Record}
 use Rattle.banks.specs.declared.holder.Found.{Found}
 use Rattle.banks.specs.declared.holder.Found.the-variants.{At, Nothing}
@@ -74,20 +75,13 @@ module _ (bank location : ℕ) where
       (λ q. not-both x r (before-is x r (every-at (before x) rs (rising-all x rs u) r m)) (holds-is x bank location q) (holds-is r bank location t))
       (λ q. rising-hit rs (rising-tail x rs u) r m t)
 
--- a location of an ordered map lies in at most one record
-pub holder-hit : (map : List ℕ) → ordered map ≡ true → (bank location : ℕ) (r : Record) → Member r map → Holds r bank location
-    → holder (recordsOf map) bank location ≡ At r
+pub holder-is-none : HolderNone
+holder-is-none map bank location = (holder-none bank location (recordsOf map), none-holder bank location (recordsOf map))
+
+pub holder-hit : HolderHit
 holder-hit map o bank location r m h = rising-hit bank location (recordsOf map) (rises map o) r m (is-holding r bank location h)
 
--- a member is found at its first location
-pub holder-first : (map : List ℕ) → ordered map ≡ true → (r : Record) → Member r map → holder (recordsOf map) (r .bank) (r .first) ≡ At r
-holder-first map o r m =
-    let f = member-fields map o r m in
-    holder-hit map o (r .bank) (r .first) r m (record { same-bank = refl; from = omega arith; to = omega arith })
-
--- all that is known of what is found
-pub holder-within : (map : List ℕ) (n bank location : ℕ) → placed map n ≡ true → (r : Record) → holder (recordsOf map) bank location ≡ At r
-    → Within map n bank location r
+pub holder-within : HolderWithin
 holder-within map n bank location p r e =
     let k = holder-at bank location (recordsOf map) r e in
     record {
@@ -96,6 +90,11 @@ holder-within map n bank location p r e =
       fields = member-fields map (placed-ordered map n p) r (k .0);
       inside = member-inside map n p r (k .0);
     }
+
+pub mapped-member : MappedMember
+mapped-member map bank =
+    (λ e. let x = some-at (λ r. eqb (r .bank) bank) (recordsOf map) e in (x .0, x .1, eqb-true (x .0 .bank) bank (x .2)),
+      λ r m e. some-of (λ r. eqb (r .bank) bank) (recordsOf map) r m (eq-eqb (r .bank) bank e))
 
 -- the value that begins at a location is the one that holds it, where it begins there
 if-first-at : (location : ℕ) (f : Found) (r : Record) → ifFirst location f ≡ At r → (f ≡ At r) × (r .first ≡ location)
@@ -111,3 +110,10 @@ pub beginner-at : (rs : List Record) (bank location : ℕ) (r : Record) → begi
     → (holder rs bank location ≡ At r) × (r .first ≡ location)
 unfolding beginner
 beginner-at rs bank location r e = if-first-at location (holder rs bank location) r e
+
+pub first-found : FirstFound
+unfolding beginner ifFirst
+first-found map o r m =
+    let f = member-fields map o r m in
+    let e = holder-hit map o (r .bank) (r .first) r m (record { same-bank = refl; from = omega arith; to = omega arith }) in
+    (e, rw (e, eq-eqb (r .first) (r .first) refl))

@@ -4,19 +4,20 @@ use mathlib.Core.Path.{_≡_, refl, ap, sym, _∙_, subst}
 use mathlib.Core.Logic.{_⊎_, inl, inr, ⊎-elim}
 use mathlib.Core.Bool.{Bool, true, false, _&&_, _||_}
 use mathlib.Core.List.{List, [], _∷_, List·Memᴰ, List·Memᴰ·head, List·Memᴰ·tail}
-use Prim.Native.Nat.{ℕ, _+_, _≤_, _<_}
+use Prim.Native.Nat.{ℕ, zero, suc, _+_, _-_, _/_, _≤_, _<_}
 use native.Mathlib.Omega.{arith}
 use borrow.Author.Tests.{leb-true, ltb-true, eqb-true, le-leb, lt-ltb, eq-eqb}
 use lib.Dec.{leb, ltb, eqb}
 use lib.ListN.{length}
-use Rattle.laws.specs.Lists.{every}
+use Rattle.laws.specs.Lists.{items, every}
 use Rattle.laws.proofs.Tests.{both, and-of}
 use Rattle.laws.proofs.Items.{every-at}
 use Rattle.laws.proofs.Sides.{either, or-left, or-right, and-left, and-right}
-use Rattle.laws.proofs.Members.{every-of}
-use Rattle.banks.specs.Map.{recordsOf, writable, locationsEnd, placesEnd}
+use Rattle.laws.proofs.Members.{every-of, items-member}
+use Rattle.banks.specs.Map.{recordAt, recordsOf, writable, locationsEnd, placesEnd}
 use Rattle.banks.specs.Rules.{lockableHolds, fieldsHold, before, risingFrom, rising, inside, clear, disjoint, placesHold, ordered, placed}
-use Rattle.banks.specs.Facts.{Member, Fielded, Before, Apart}
+use Rattle.banks.specs.Facts.{Fielded, Before, Apart}
+use Rattle.banks.specs.Promises.{MemberFields, MembersRise, MemberInside, MembersApart}
 use Rattle.banks.specs.declared.record.Record.{Record}
 
 ruleset parts = (and-left, and-right, leb-true)
@@ -106,19 +107,39 @@ pub rises : (map : List ℕ) → ordered map ≡ true → rising (recordsOf map)
 unfolding ordered
 rises map o = search (and-left, and-right)
 
-pub member-fields : (map : List ℕ) → ordered map ≡ true → (r : Record) → Member r map → Fielded r
+pub member-fields : MemberFields
 member-fields map o r m = fielded r (every-at fieldsHold (recordsOf map) (fields-all map o) r m)
 
+module _ (item : ℕ → Record) where
+  renumbered : (a b i j : ℕ) → a ≡ i → b ≡ j → Before (item a) (item b) → Before (item i) (item j)
+  renumbered a b i j p q h = subst (λ (x : ℕ). Before (item x) (item j)) p (subst (λ (x : ℕ). Before (item a) (item x)) q h)
+
+  -- of n items from number k on, number i stands before number j
+  rise : (n k i j : ℕ) → rising (items item k n) ≡ true → i < j → j < n → Before (item (k + i)) (item (k + j))
+  rise zero k i j u h l = absurd (omega arith)
+  rise (suc n) k zero j u h l =
+      let later = items-member item (suc k) n (j - 1) (omega arith) in
+      let all = rising-all (item k) (items item (suc k) n) u in
+      let is = before-is (item k) (item (suc k + (j - 1))) (every-at (before (item k)) (items item (suc k) n) all (item (suc k + (j - 1))) later) in
+      renumbered k (suc k + (j - 1)) (k + 0) (k + j) (omega arith) (omega arith) is
+  rise (suc n) k (suc i) j u h l =
+      let is = rise n (suc k) i (j - 1) (rising-tail (item k) (items item (suc k) n) u) (omega arith) (omega arith) in
+      renumbered (suc k + i) (suc k + (j - 1)) (k + suc i) (k + j) (omega arith) (omega arith) is
+
+pub members-rise : MembersRise
+unfolding recordsOf
+members-rise map o i j h l =
+    renumbered (recordAt map) (0 + i) (0 + j) i j (omega arith) (omega arith) (rise (recordAt map) (length map / 8) 0 i j (rises map o) h l)
+
 -- the records of a map whose places lie in a store of n bytes
-module _ (map : List ℕ) (n : ℕ) (p : placed map n ≡ true) where
-  pub placed-ordered : ordered map ≡ true
-  unfolding placed
-  placed-ordered = both (ordered map) (placesHold (recordsOf map) n n) p .0
+pub placed-ordered : (map : List ℕ) (n : ℕ) → placed map n ≡ true → ordered map ≡ true
+unfolding placed
+placed-ordered map n p = both (ordered map) (placesHold (recordsOf map) n n) p .0
 
-  pub member-inside : (r : Record) → Member r map → placesEnd r ≤ n
-  unfolding placed placesHold
-  member-inside r m = leb-true (placesEnd r) n (every-at (inside n) (recordsOf map) (search (and-left, and-right)) r m)
+pub member-inside : MemberInside
+unfolding placed placesHold
+member-inside map n p r m = leb-true (placesEnd r) n (every-at (inside n) (recordsOf map) (search (and-left, and-right)) r m)
 
-  pub members-apart : (r s : Record) → Member r map → Member s map → (r ≡ s) ⊎ Apart r s
-  unfolding placed placesHold
-  members-apart r s i j = disjoint-apart (recordsOf map) (search (and-left, and-right)) r s i j
+pub members-apart : MembersApart
+unfolding placed placesHold
+members-apart map n p r s i j = disjoint-apart (recordsOf map) (search (and-left, and-right)) r s i j

@@ -4,11 +4,15 @@ use mathlib.Core.Path.{_≡_}
 use mathlib.Core.Logic.{_⊎_}
 use mathlib.Core.Bool.{true}
 use mathlib.Core.List.{List, List·Memᴰ}
-use Prim.Native.Nat.{ℕ, _+_, _≤_, _<_}
-use lib.ListN.{length}
+use Prim.Native.Nat.{ℕ, _≤_, _<_}
+use lib.ListN.{length, getD}
 use Rattle.banks.specs.Map.{recordsOf, writable, locationsEnd, placesEnd}
 use Rattle.banks.specs.Rules.{ordered, placed, banksHold, headBytesHold}
+use Rattle.banks.specs.Lookup.{holder, valueOf, putValue, lockByte}
+use Rattle.banks.specs.Look.{lookOf, lookBytes}
 use Rattle.banks.specs.declared.record.Record.{Record}
+use Rattle.banks.specs.declared.holder.Found.the-variants.{At}
+use Rattle.banks.specs.declared.looked.Looked.{Looked}
 
 -- a record of the map
 abbrev pub Member : Record → List ℕ → Type 0
@@ -60,3 +64,23 @@ pub record LockRecord (map : List ℕ) (bank : ℕ) (r : Record) : Type 0 where
   pub its-width : r .width ≡ 1
   pub its-kind : r .kind ≡ 2
   pub no-lock : r .lockable ≡ 0
+
+-- the bytes of the value r, put into the store
+pub record Put (map store bytes : List ℕ) (r : Record) : Type 0 where
+  -- they are that value's bytes
+  pub there : valueOf r (putValue r bytes store) ≡ bytes
+  -- every other value stays
+  pub others : (s : Record) → Member s map → (s ≡ r → ⊥) → valueOf s (putValue r bytes store) ≡ valueOf s store
+  -- every byte under no record stays
+  pub unmapped : (j : ℕ) → ((s : Record) → Member s map → (j < s .offset) ⊎ (placesEnd s ≤ j)) → getD (putValue r bytes store) j 0 ≡ getD store j 0
+  -- every lock byte stays but one that is the value itself
+  pub locks : (bank : ℕ) → (holder (recordsOf map) bank 0x02 ≡ At r → ⊥) → lockByte (recordsOf map) (putValue r bytes store) bank ≡ lockByte (recordsOf map) store bank
+  pub as-long : length (putValue r bytes store) ≡ length store
+
+-- a look that found the value r
+pub record Shows (map store : List ℕ) (bank location : ℕ) (r : Record) : Type 0 where
+  pub member : Member r map
+  pub its-bank : r .bank ≡ bank
+  pub begins : r .first ≡ location
+  pub place : lookOf map store bank location ≡ record { number = 0; width = r .width; offset = r .offset }
+  pub bytes : lookBytes map store bank location ≡ valueOf r store

@@ -3,3 +3,4 @@ pub mod Rules
 pub mod Lookup
 pub mod Look
 pub mod Facts
+pub mod Promises

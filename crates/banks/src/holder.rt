@@ -4,7 +4,7 @@ ghost use mathlib.Core.Bool.{true};
 ghost use lib.ListN.{length};
 ghost use Rattle.banks.specs.Map.{recordsOf, mapped};
 ghost use Rattle.banks.specs.Rules.{ordered, placed};
-ghost use Rattle.banks.specs.Lookup.{holds, holder, ifFirst, beginner, lockByte};
+ghost use Rattle.banks.specs.Lookup.{holds, holder, lockByte};
 use crate::record::Record;
 use crate::record::locations_end;
 use crate::record::record_at;
@@ -55,29 +55,6 @@ pub fn is_mapped(map: &[u8], bank: u8) -> bool
         i += 1;
     }
     false
-}
-
-// Of the record that holds a location: the one that begins there, or none.
-fn if_first(location: u8, found: Found) -> Found
-    ensures { λ r. ⌜ r ≡ ifFirst location found ⌝ }
-{
-    match found {
-        Found::At(r) => if r.first == location {
-            Found::At(r)
-        } else {
-            Found::Nothing
-        },
-        Found::Nothing => Found::Nothing,
-    }
-}
-
-// Internal: the value that begins at the location. The map has passed 7, 8 and 9.
-pub fn beginner(map: &[u8], bank: u8, location: u8) -> Found
-    requires { ⌜ ordered (now map) ≡ true ⌝ }
-    ensures { λ r. ⌜ r ≡ beginner (recordsOf (now (map .entry))) bank location ⌝ }
-{
-    let found = lookup(map, bank, location);
-    if_first(location, found)
 }
 
 // Internal: a bank's lock byte, the stored byte at 0x02. Map and store have passed 7 to 10.

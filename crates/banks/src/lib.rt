@@ -5,7 +5,6 @@ mod holder; // which record holds a location
 mod looked; // the look calls
 
 pub use holder::Found;
-pub use holder::beginner;
 pub use holder::is_mapped;
 pub use holder::lock_byte;
 pub use holder::lookup;

@@ -1,8 +1,9 @@
 // The look calls: the stored bytes of a value that begins at a given bank and location. They have no image, and take the store for it.
 ghost use mathlib.Core.Path.{_≡_};
+ghost use Rattle.banks.specs.Lookup.{ifFirst};
 ghost use Rattle.banks.specs.Look.{lookNumber, refusedLook, placeOf, lookOf, lookBytes};
 use crate::holder::Found;
-use crate::holder::beginner;
+use crate::holder::lookup;
 use crate::rules::check_number;
 
 // The number of a look, and the place of the value; a refusal has no place.
@@ -22,17 +23,20 @@ fn refused(number: u8) -> Looked
     }
 }
 
-fn place_of(found: Found) -> Looked
-    ensures { λ r. ⌜ r ≡ placeOf found ⌝ }
+// The place of what holds a location, where it begins there.
+fn place_of(found: Found, location: u8) -> Looked
+    ensures { λ r. ⌜ r ≡ placeOf (ifFirst location found) ⌝ }
 {
-    match found {
-        Found::At(r) => Looked {
-            number: 0,
-            width: r.width,
-            offset: r.offset,
-        },
-        Found::Nothing => refused(14),
+    if let Found::At(r) = found {
+        if r.first == location {
+            return Looked {
+                number: 0,
+                width: r.width,
+                offset: r.offset,
+            };
+        }
     }
+    refused(14)
 }
 
 // Number, width and offset of the value that begins at the bank and location.
@@ -43,8 +47,8 @@ pub fn look_at(map: &[u8], store: &[u8], bank: u8, location: u8) -> Looked
     if number != 0 {
         return refused(number);
     }
-    let found = beginner(map, bank, location);
-    place_of(found)
+    let found = lookup(map, bank, location);
+    place_of(found, location)
 }
 
 // The number of a look: 7 to 11, then 14, or 0.

@@ -5,6 +5,8 @@ pub mod Table
 pub mod Items
 pub mod Parts
 pub mod Copies
+pub mod Numbered
+pub mod Choosing
 pub mod Numbers
 pub mod Settled
 pub mod Counts
@@ -12,3 +14,4 @@ pub mod Powers
 pub mod Sides
 pub mod Members
 pub mod Joined
+pub mod PartBytes

@@ -3,3 +3,4 @@ pub mod Reaching
 pub mod Writes
 pub mod Run
 pub mod StagedRoom
+pub mod Filling

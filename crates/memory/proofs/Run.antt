@@ -43,8 +43,8 @@ module _ (rs : List Record) (store : List ℕ) (r : Record) (small : r .width �
   at-next k bytes h e =
       record {
         takes =
-          rw (W, U, le-leb 1 k h, eq-eqb (r .bank) (r .bank) refl, eq-eqb (r .first) (r .first) refl, eq-eqb (r .first + k) (r .first + k) refl)
-          (or-true (eqb (r .first + k) (r .first)));
+            rw (W, U, le-leb 1 k h, eq-eqb (r .bank) (r .bank) refl, eq-eqb (r .first) (r .first) refl, eq-eqb (r .first + k) (r .first + k) refl)
+            (or-true (eqb (r .first + k) (r .first)));
         with = λ b. rw (ne-eqb k 0 (omega arith));
         eight = e;
       }
@@ -58,8 +58,8 @@ module _ (rs : List Record) (store : List ℕ) (r : Record) (small : r .width �
   rest [] b k g bytes t w =
       let n : r .first + k - r .first ≡ k = omega arith in
       let last : take (r .width) (bytesWith g (r .first + k - r .first) b) ≡ take k bytes ++ b ∷ [] =
-          ap (λ (j : ℕ). take (r .width) (bytesWith g j b)) n ∙ ap (take (r .width)) (t .with b)
-          ∙ ap (λ (j : ℕ). take j (set bytes k b)) (sym w) ∙ one-more bytes k b (t .eight) (omega arith) in
+      ap (λ (j : ℕ). take (r .width) (bytesWith g j b)) n ∙ ap (take (r .width)) (t .with b)
+      ∙ ap (λ (j : ℕ). take j (set bytes k b)) (sym w) ∙ one-more bytes k b (t .eight) (omega arith) in
       ap (λ (o : Outcome Wrote). leaves (o .answer .staged) (o .store))
       (write-last rs store g (r .bank) (r .first + k) b r (record { found = F k (omega arith); took = t .takes }) (omega arith))
       ∙ ap (λ (l : List ℕ). leaves noneStaged (putValue r l store)) last

@@ -40,4 +40,3 @@ pub record StagedOf (rs : List Record) (store : List ℕ) (g : Staged) (r : Reco
   pub opens : unlocked rs store r ≡ true
   pub not-all : g .count < r .width
   pub zero : zeroFrom (g .count) (g .bytes) ≡ true
-

@@ -52,8 +52,8 @@ taken-is rs store g r location e =
       writes = search (and-left, and-right);
       opens = search (and-left, and-right);
       first-or-next =
-        ⊎-elim (λ t. inl (eqb-true location (r .first) t)) (λ t. inr (next-is g r location t))
-        (either (eqb location (r .first)) (isNext g r location) (search (and-left, and-right)));
+          ⊎-elim (λ t. inl (eqb-true location (r .first) t)) (λ t. inr (next-is g r location t))
+          (either (eqb location (r .first)) (isNext g r location) (search (and-left, and-right)));
     }
 
 module _ (rs : List Record) (store : List ℕ) (g : Staged) (bank location byte : ℕ) where
