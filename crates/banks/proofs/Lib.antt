@@ -5,3 +5,4 @@ pub mod HeadsAndLocks
 pub mod Standing
 pub mod Looks
 pub mod Values
+pub mod Cases

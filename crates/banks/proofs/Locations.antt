@@ -92,9 +92,10 @@ holder-within map n bank location p r e =
     }
 
 pub mapped-member : MappedMember
-mapped-member map bank =
-    (λ e. let x = some-at (λ r. eqb (r .bank) bank) (recordsOf map) e in (x .0, x .1, eqb-true (x .0 .bank) bank (x .2)),
-      λ r m e. some-of (λ r. eqb (r .bank) bank) (recordsOf map) r m (eq-eqb (r .bank) bank e))
+mapped-member map bank = (
+  λ e. let x = some-at (λ r. eqb (r .bank) bank) (recordsOf map) e in (x .0, x .1, eqb-true (x .0 .bank) bank (x .2)),
+  λ r m e. some-of (λ r. eqb (r .bank) bank) (recordsOf map) r m (eq-eqb (r .bank) bank e),
+)
 
 -- the value that begins at a location is the one that holds it, where it begins there
 if-first-at : (location : ℕ) (f : Found) (r : Record) → ifFirst location f ≡ At r → (f ≡ At r) × (r .first ≡ location)

@@ -9,16 +9,22 @@ use lib.Dec.{eqb}
 use lib.ListN.{length}
 use Rattle.laws.specs.Choice.{if_then_else_}
 use Rattle.laws.specs.Numbers.{Test, test, firstFailing}
+use Rattle.laws.specs.Parts.{part}
+use Rattle.laws.proofs.Numbers.{exactly-if}
+use Rattle.laws.proofs.Parts.{length-part}
+use Rattle.laws.proofs.Settled.{settles}
 use Rattle.laws.proofs.Joined.{joined-none, joined-some}
 use Rattle.banks.specs.Map.{recordsOf, placesEnd}
 use Rattle.banks.specs.Rules.{checkTests, checkNumber}
-use Rattle.banks.specs.Lookup.{holder, ifFirst, beginner}
-use Rattle.banks.specs.Look.{isFound, lookNumber, refusedLook, placeOf, lookOf}
+use Rattle.banks.specs.Lookup.{beginner, valueOf}
+use Rattle.banks.specs.Look.{isFound, lookTests, lookNumber, refusedLook, placeOf, lookOf, lookBytes}
+use Rattle.banks.specs.Facts.{Shows}
+use Rattle.banks.specs.Promises.{LookNumbers, LookShows, LookEmpty, LookAtSettled, LookNumberSettled, LookSettled}
 use Rattle.banks.specs.declared.record.Record.{Record}
 use Rattle.banks.specs.declared.holder.Found.{Found}
 use Rattle.banks.specs.declared.holder.Found.the-variants.{At, Nothing}
-use Rattle.banks.specs.declared.looked.Looked.{Looked}
-use Rattle.banks.proofs.Locations.{holder-within, beginner-at}
+use Rattle.banks.proofs.Members.{member-fields, member-inside}
+use Rattle.banks.proofs.Locations.{holds-is, holder-at, holder-within, beginner-at}
 use Rattle.banks.proofs.Standing.{stands}
 
 -- a number and a place, as one
@@ -71,3 +77,65 @@ module _ (map store : List ℕ) (bank location : ℕ) where
       go : (n : ℕ) → checkNumber map store (length store) ≡ n → lookOf map store bank location .offset + lookOf map store bank location .width ≤ length store
       go zero e = rw (look-sound e) (of-found e (beginner (recordsOf map) bank location) refl)
       go (suc n) e = rw (look-refused (suc n) (omega arith) e) (omega arith)
+
+  -- a look with number 0 passed 7 to 11
+  pub look-checked : lookNumber map store bank location ≡ 0 → checkNumber map store (length store) ≡ 0
+  look-checked e = go (checkNumber map store (length store)) refl
+    where
+      go : (n : ℕ) → checkNumber map store (length store) ≡ n → n ≡ 0
+      go zero q = refl
+      go (suc n) q = sym (refused-number (suc n) (omega arith) q) ∙ e
+
+pub look-numbers : LookNumbers
+unfolding lookNumber
+look-numbers map store bank location n h = exactly-if (lookTests map store bank location) n h
+
+pub look-shows : LookShows
+unfolding lookBytes valueOf
+look-shows map store bank location e = go (beginner (recordsOf map) bank location) refl
+  where
+    sound : checkNumber map store (length store) ≡ 0
+    sound = look-checked map store bank location e
+
+    go : (f : Found) → beginner (recordsOf map) bank location ≡ f → (r : Record) × Shows map store bank location r
+    go (At r) q =
+        let b = beginner-at (recordsOf map) bank location r q in
+        let k = holder-at bank location (recordsOf map) r (b .0) in
+        let place : lookOf map store bank location ≡ placeOf (At r) = look-sound map store bank location sound ∙ ap placeOf q in (
+          r,
+          record {
+            member = k .0;
+            its-bank = holds-is r bank location (k .1) .same-bank;
+            begins = b .1;
+            place = place;
+            bytes = rw place;
+          },
+        )
+    go Nothing q = absurd (omega (arith, sym e ∙ sound-number map store bank location sound ∙ ap (λ (f : Found). if isFound f then 0 else 14) q))
+
+-- a value has at least one byte
+some-byte : (map store : List ℕ) (bank location : ℕ) → lookBytes map store bank location ≡ [] → lookNumber map store bank location ≡ 0 → ⊥
+unfolding valueOf
+some-byte map store bank location b e =
+    let x = look-shows map store bank location e in
+    let s = stands map store (length store) (look-checked map store bank location e) in
+    let f = member-fields map (s .in-order) (x .0) (x .1 .member) in
+    let i = member-inside map (length store) (s .in-place) (x .0) (x .1 .member) in
+    let n = length-part (x .0 .offset) (x .0 .width) store i in
+    omega (arith, ap length (sym (x .1 .bytes) ∙ b))
+
+no-byte : (map store : List ℕ) (bank location : ℕ) → (lookNumber map store bank location ≡ 0 → ⊥) → lookBytes map store bank location ≡ []
+unfolding lookOf lookBytes part
+no-byte map store bank location n = rw (ne-eqb (lookNumber map store bank location) 0 n)
+
+pub look-empty : LookEmpty
+look-empty map store bank location = (some-byte map store bank location, no-byte map store bank location)
+
+pub look-at-settled : LookAtSettled
+look-at-settled map store bank location = settles (lookOf map store bank location)
+
+pub look-number-settled : LookNumberSettled
+look-number-settled map store bank location = settles (lookNumber map store bank location)
+
+pub look-settled : LookSettled
+look-settled map store bank location = settles (lookBytes map store bank location)

@@ -11,10 +11,12 @@ use Rattle.laws.specs.Lists.{every}
 use Rattle.laws.specs.Numbers.{Test, test, firstFailing}
 use Rattle.laws.proofs.Tests.{both, and-of}
 use Rattle.laws.proofs.Sides.{and-left, and-right}
-use Rattle.laws.proofs.Numbers.{none-exactly-if}
+use Rattle.laws.proofs.Numbers.{exactly-if, none-exactly-if}
+use Rattle.laws.proofs.Settled.{settles}
 use Rattle.banks.specs.Map.{recordsOf}
 use Rattle.banks.specs.Rules.{sizeHolds, fieldsHold, rising, lengthsHold, inside, disjoint, placesHold, banksHold, headBytesHold, checkTests, checkNumber, ordered, placed}
 use Rattle.banks.specs.Facts.{Stands}
+use Rattle.banks.specs.Promises.{CheckNumbers, CheckStands, CheckSettled}
 
 pub ordered-of : (map : List ℕ) → sizeHolds (length map) ≡ true → every fieldsHold (recordsOf map) ≡ true → rising (recordsOf map) ≡ true
     → ordered map ≡ true
@@ -30,7 +32,6 @@ pub placed-of : (map : List ℕ) (n kept : ℕ) → ordered map ≡ true → pla
 unfolding placed
 placed-of map n kept o e = rw (o, same-lengths map n kept e) (rw (same-lengths map n kept e) at e)
 
--- the number is 0 exactly if everything stands
 pub stands : (map store : List ℕ) (kept : ℕ) → checkNumber map store kept ≡ 0 → Stands map store kept
 unfolding checkNumber
 stands map store kept e =
@@ -50,7 +51,7 @@ stands map store kept e =
       heads = banks .1;
     }
 
-pub is-standing : (map store : List ℕ) (kept : ℕ) → Stands map store kept → checkNumber map store kept ≡ 0
+is-standing : (map store : List ℕ) (kept : ℕ) → Stands map store kept → checkNumber map store kept ≡ 0
 unfolding checkNumber ordered placed
 is-standing map store kept s =
     let rs = recordsOf map in
@@ -58,3 +59,13 @@ is-standing map store kept s =
     let fields = both (every fieldsHold rs) (rising rs) (size .1) in
     let places = both (ordered map) (placesHold rs (length store) (length store)) (s .in-place) in
     none-exactly-if (checkTests map store kept) refl .1 (rw (s .as-long, size .0, fields .0, fields .1, places .1, s .banks, s .heads))
+
+pub check-stands : CheckStands
+check-stands map store kept = (stands map store kept, is-standing map store kept)
+
+pub check-numbers : CheckNumbers
+unfolding checkNumber
+check-numbers map store kept n h = exactly-if (checkTests map store kept) n h
+
+pub check-settled : CheckSettled
+check-settled map store image = settles (checkNumber map store (length image))

@@ -4,3 +4,4 @@ pub mod Lookup
 pub mod Look
 pub mod Facts
 pub mod Promises
+pub mod Cases

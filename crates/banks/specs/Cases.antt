@@ -1,0 +1,160 @@
+-- Worked cases: paper 01's bench map and its neighbours at each boundary, with the number that each must get. One table and
+-- one statement for the checks, and one for the looks.
+-- Assumes nothing.
+use mathlib.Core.Path.{_≡_}
+use mathlib.Core.List.{List, [], _∷_, _++_, map}
+use Prim.Native.Nat.{ℕ}
+use lib.ListN.{length, replicate}
+use Rattle.banks.specs.Rules.{checkNumber}
+use Rattle.banks.specs.Look.{lookNumber, lookOf, lookBytes}
+use Rattle.banks.specs.declared.looked.Looked.{Looked}
+
+-- a record of the map: bank, first location, width, kind, lockable, zero, store offset
+abbrev row : ℕ → ℕ → ℕ → ℕ → ℕ → ℕ → ℕ → ℕ → List ℕ
+row bank first width kind lockable fifth high low = bank ∷ first ∷ width ∷ kind ∷ lockable ∷ fifth ∷ high ∷ low ∷ []
+
+-- the byte at 0x00 and the lock byte of a bank, at the first two places of the store
+abbrev head : ℕ → List ℕ
+head bank = row bank 0x00 1 0 0 0 0 0
+
+abbrev lock : ℕ → List ℕ
+lock bank = row bank 0x02 1 2 0 0 0 1
+
+-- the bench map and its store
+abbrev pub benchMap : List ℕ
+benchMap = head 2 ++ lock 2 ++ row 2 0x03 4 4 1 0 0 2
+
+abbrev pub benchStore : List ℕ
+benchStore = 0x06 ∷ 0xFF ∷ 0x00 ∷ 0x00 ∷ 0x00 ∷ 0x64 ∷ []
+
+-- a store whose first byte is the one at 0x00, and n bytes after it
+abbrev stored : ℕ → ℕ → List ℕ
+stored byte n = byte ∷ replicate n 0
+
+-- bank 2 with more values
+abbrev with : List ℕ → List ℕ
+with values = head 2 ++ lock 2 ++ values
+
+pub record CheckCase : Type 0 where
+  pub records : List ℕ
+  pub store : List ℕ
+  pub kept : ℕ
+  pub number : ℕ
+
+abbrev checked : List ℕ → List ℕ → ℕ → CheckCase
+checked records store number = record { records = records; store = store; kept = length store; number = number }
+
+abbrev pub checkCases : List CheckCase
+checkCases =
+    checked benchMap benchStore 0
+    -- 7: no record, parts of a record, 64 and 65 records
+    ∷ checked [] [] 0
+    ∷ checked (replicate 7 0) [] 7
+    ∷ checked (benchMap ++ 0 ∷ []) benchStore 7
+    ∷ checked (replicate 512 0) [] 8
+    ∷ checked (replicate 520 0) [] 7
+    -- 8: bank, width, last location, kind, lockable, zero
+    ∷ checked (head 199 ++ lock 199) (stored 3 1) 0
+    ∷ checked (head 200 ++ lock 200) (stored 3 1) 8
+    ∷ checked (with (row 2 0x03 0 4 0 0 0 2)) (stored 20 20) 8
+    ∷ checked (with (row 2 0x03 1 4 0 0 0 2)) (stored 20 20) 0
+    ∷ checked (with (row 2 0x03 8 4 0 0 0 2)) (stored 20 20) 0
+    ∷ checked (with (row 2 0x03 9 4 0 0 0 2)) (stored 20 20) 8
+    ∷ checked (with (row 2 0xFE 1 4 0 0 0 2)) (stored 254 20) 0
+    ∷ checked (with (row 2 0xFF 1 4 0 0 0 2)) (stored 254 20) 8
+    ∷ checked (with (row 2 0xF7 8 4 0 0 0 2)) (stored 254 20) 0
+    ∷ checked (with (row 2 0xF8 8 4 0 0 0 2)) (stored 254 20) 8
+    ∷ checked (with (row 2 0x03 1 5 0 0 0 2)) (stored 20 20) 8
+    ∷ checked (with (row 2 0x03 1 2 1 0 0 2)) (stored 20 20) 0
+    ∷ checked (with (row 2 0x03 1 4 2 0 0 2)) (stored 20 20) 8
+    ∷ checked (with (row 2 0x03 1 0 1 0 0 2)) (stored 20 20) 8
+    ∷ checked (with (row 2 0x03 1 1 1 0 0 2)) (stored 20 20) 8
+    ∷ checked (with (row 2 0x03 1 3 1 0 0 2)) (stored 20 20) 8
+    ∷ checked (with (row 2 0x03 1 4 0 1 0 2)) (stored 20 20) 8
+    -- 9: order of banks and of locations, and locations shared
+    ∷ checked (lock 2 ++ head 2) (stored 20 20) 9
+    ∷ checked (head 2 ++ lock 2 ++ row 3 0x00 1 0 0 0 0 2 ++ row 3 0x02 1 2 0 0 0 3) (20 ∷ 0 ∷ stored 20 20) 0
+    ∷ checked (row 3 0x00 1 0 0 0 0 2 ++ row 3 0x02 1 2 0 0 0 3 ++ head 2 ++ lock 2) (20 ∷ 0 ∷ stored 20 20) 9
+    ∷ checked (with (row 2 0x02 1 4 0 0 0 2)) (stored 20 20) 9
+    ∷ checked (with (row 2 0x03 4 4 0 0 0 2 ++ row 2 0x06 1 4 0 0 0 6)) (stored 20 20) 9
+    ∷ checked (with (row 2 0x03 4 4 0 0 0 2 ++ row 2 0x07 1 4 0 0 0 6)) (stored 20 20) 0
+    -- 10: lengths, 4,096 and 4,097 bytes, places outside and shared
+    ∷ record { records = benchMap; store = benchStore; kept = 7; number = 10 }
+    ∷ checked benchMap (stored 6 4095) 0
+    ∷ checked benchMap (stored 6 4096) 10
+    ∷ checked benchMap (stored 6 4) 10
+    ∷ checked (with (row 2 0x03 1 4 0 0 1 0)) (stored 20 256) 0
+    ∷ checked (with (row 2 0x03 1 4 0 0 1 0)) (stored 20 255) 10
+    ∷ checked (with (row 2 0x03 2 4 0 0 0 1)) (stored 20 20) 10
+    ∷ checked (with (row 2 0x03 4 4 0 0 0 2 ++ row 2 0x07 1 4 0 0 0 5)) (stored 20 20) 10
+    ∷ checked (with (row 2 0x03 4 4 0 0 0 6 ++ row 2 0x07 4 4 0 0 0 3)) (stored 20 20) 10
+    ∷ checked (with (row 2 0x03 4 4 0 0 0 6 ++ row 2 0x07 4 4 0 0 0 2)) (stored 20 20) 0
+    -- 11: the record at 0x00 and its byte
+    ∷ checked (lock 2) (stored 20 20) 11
+    ∷ checked (row 2 0x01 1 0 0 0 0 0 ++ lock 2) (stored 20 20) 11
+    ∷ checked (row 2 0x00 2 0 0 0 0 2 ++ lock 2) (stored 20 20) 11
+    ∷ checked (row 2 0x00 1 1 0 0 0 0 ++ lock 2) (stored 20 20) 11
+    ∷ checked (head 2 ++ lock 2) (stored 2 1) 11
+    ∷ checked (head 2 ++ lock 2) (stored 3 1) 0
+    ∷ checked (head 2 ++ lock 2) (stored 254 1) 0
+    ∷ checked (head 2 ++ lock 2) (stored 255 1) 11
+    ∷ checked benchMap (stored 5 5) 11
+    ∷ checked benchMap (stored 6 5) 0
+    -- 11: the lock byte, and bank 0
+    ∷ checked (head 2) (stored 20 20) 11
+    ∷ checked (head 1 ++ row 1 0x03 1 4 0 0 0 2) (stored 20 20) 11
+    ∷ checked (head 2 ++ row 2 0x02 2 2 0 0 0 1) (stored 20 20) 11
+    ∷ checked (head 2 ++ row 2 0x02 1 4 0 0 0 1) (stored 20 20) 11
+    ∷ checked (head 2 ++ row 2 0x02 1 2 1 0 0 1) (stored 20 20) 11
+    ∷ checked (head 0) (stored 3 1) 0
+    ∷ checked (head 0 ++ row 0 0x02 1 1 0 0 0 1 ++ row 0 0x03 1 3 0 0 0 2) (stored 3 2) 0
+    ∷ checked (head 0 ++ row 0 0x02 1 2 0 0 0 1) (stored 3 1) 11
+    ∷ checked (head 0 ++ row 0 0x03 1 4 0 0 0 1) (stored 3 1) 11
+    -- two rules broken: the lower number
+    ∷ checked (0 ∷ []) (stored 0 4096) 7
+    ∷ checked (row 2 0x03 9 4 0 0 0 2 ++ head 2) [] 8
+    ∷ checked (lock 2 ++ head 2) [] 9
+    ∷ checked (lock 2) [] 10
+    ∷ []
+
+-- each case gets its number
+unfoldable pub CheckCases : Type 0
+CheckCases = map (λ c. checkNumber (c .records) (c .store) (c .kept)) checkCases ≡ map (λ c. c .number) checkCases
+
+pub record LookCase : Type 0 where
+  pub records : List ℕ
+  pub store : List ℕ
+  pub bank : ℕ
+  pub location : ℕ
+  pub answer : Looked
+  pub bytes : List ℕ
+
+abbrev looked : ℕ → ℕ → ℕ → Looked
+looked number width offset = record { number = number; width = width; offset = offset }
+
+-- a look into the bench map and its store
+abbrev bench : ℕ → ℕ → Looked → List ℕ → LookCase
+bench bank location answer bytes =
+    record { records = benchMap; store = benchStore; bank = bank; location = location; answer = answer; bytes = bytes }
+
+abbrev pub lookCases : List LookCase
+lookCases =
+    bench 2 0x00 (looked 0 1 0) (0x06 ∷ [])
+    ∷ bench 2 0x02 (looked 0 1 1) (0xFF ∷ [])
+    ∷ bench 2 0x03 (looked 0 4 2) (0x00 ∷ 0x00 ∷ 0x00 ∷ 0x64 ∷ [])
+    -- between two values, inside one, past the last, in another bank
+    ∷ bench 2 0x01 (looked 14 0 0) []
+    ∷ bench 2 0x04 (looked 14 0 0) []
+    ∷ bench 2 0x07 (looked 14 0 0) []
+    ∷ bench 1 0x00 (looked 14 0 0) []
+    ∷ bench 200 0x00 (looked 14 0 0) []
+    -- 7 to 11 before 14
+    ∷ record { records = 0 ∷ []; store = []; bank = 2; location = 0; answer = looked 7 0 0; bytes = [] }
+    ∷ record { records = benchMap; store = stored 5 5; bank = 2; location = 0; answer = looked 11 0 0; bytes = [] }
+    ∷ []
+
+-- each case gets its number, its place and its bytes
+pub record LookCases : Type 0 where
+  pub numbers : map (λ c. lookNumber (c .records) (c .store) (c .bank) (c .location)) lookCases ≡ map (λ c. c .answer .number) lookCases
+  pub places : map (λ c. lookOf (c .records) (c .store) (c .bank) (c .location)) lookCases ≡ map (λ c. c .answer) lookCases
+  pub bytes : map (λ c. lookBytes (c .records) (c .store) (c .bank) (c .location)) lookCases ≡ map (λ c. c .bytes) lookCases
