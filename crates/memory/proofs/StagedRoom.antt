@@ -21,7 +21,7 @@ use Rattle.banks.specs.declared.record.Record.{Record}
 use Rattle.banks.specs.declared.holder.Found.{Found}
 use Rattle.banks.specs.declared.holder.Found.the-variants.{At, Nothing}
 use Rattle.banks.proofs.Members.{placed-ordered}
-use Rattle.banks.proofs.Locations.{holder-first, holder-within}
+use Rattle.banks.proofs.Locations.{first-found, holder-within}
 use Rattle.memory.specs.Staged.{noneStaged, unlocked, taken, bytesWith, stagedOf, writeOf}
 use Rattle.memory.specs.Rooms.{zeroFrom, stagedIn, stagedHolds}
 use Rattle.memory.specs.declared.staged.Staged.{Staged}

@@ -4,13 +4,14 @@ ghost use mathlib.Core.Bool.{true};
 ghost use lib.ListN.{length};
 ghost use Rattle.banks.specs.Map.{recordsOf};
 ghost use Rattle.banks.specs.Rules.{placed, ordered};
+ghost use Rattle.banks.specs.Lookup.{beginner};
 ghost use Rattle.memory.specs.Rooms.{zeroFrom, stagedIn, stagedHolds, latchedIn, latchHolds};
 use crate::latched::Latch;
 use crate::staged::Staged;
 use crate::staged::is_unlocked;
 use banks::Found;
-use banks::beginner;
 use banks::is_writable;
+use banks::lookup;
 
 // The bytes are zero from number `used` on.
 fn is_zero_from(bytes: [u8; 8], used: usize) -> bool
@@ -24,6 +25,21 @@ fn is_zero_from(bytes: [u8; 8], used: usize) -> bool
         i += 1;
     }
     true
+}
+
+// Internal: the value that begins at the bank and location. The map has passed 7, 8 and 9.
+fn value_from(map: &[u8], bank: u8, location: u8) -> Found
+    requires { ⌜ ordered (now map) ≡ true ⌝ }
+    ensures { λ f. ⌜ f ≡ beginner (recordsOf (now (map .entry))) bank location ⌝ }
+{
+    match lookup(map, bank, location) {
+        Found::At(r) => if r.first == location {
+            Found::At(r)
+        } else {
+            Found::Nothing
+        },
+        Found::Nothing => Found::Nothing,
+    }
 }
 
 // Internal: the staged bytes are some of this value's.
@@ -53,7 +69,7 @@ pub fn staged_holds(map: &[u8], store: &[u8], staged: Staged) -> bool
         let zero = is_zero_from(bytes, 0);
         return (staged.bank == 0) & (staged.first == 0) & zero;
     }
-    let found = beginner(map, staged.bank, staged.first);
+    let found = value_from(map, staged.bank, staged.first);
     staged_in(map, store, staged, found)
 }
 
@@ -77,7 +93,7 @@ pub fn latch_holds(map: &[u8], latch: Latch) -> bool
     ensures { λ b. ⌜ b ≡ latchHolds (recordsOf (now (map .entry))) latch ⌝ }
 {
     if latch.held {
-        let found = beginner(map, latch.bank, latch.first);
+        let found = value_from(map, latch.bank, latch.first);
         return latched_in(latch, found);
     }
     let bytes = latch.bytes;

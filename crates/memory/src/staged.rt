@@ -122,7 +122,8 @@ fn write_found(map: &[u8], store: &mut [u8], g: Staged, r: Record, location: u8,
         let k = location - first;
         return take_byte(store, g, r, k, byte);
     }
-    wrote_as(false, none_staged())
+    let none = none_staged();
+    wrote_as(false, none)
 }
 
 // Internal: an executed write of the byte at the bank and location.

@@ -1,11 +1,12 @@
 use Prim.Native.Nat.{_-_, _/_, _≤_}
-use mathlib.Core.Path.{_≡_}
+use mathlib.Core.Path.{_≡_, refl}
 use native.Mathlib.Omega.{arith}
 use borrow.Author.Needs.{needs}
 use lib.ListN.{length}
 use denote.Ref.{now}
+use Rattle.banks.proofs.Walk.{member}
 use Rattle.banks.proofs.Members.{placed-ordered, member-fields, member-inside}
-use Rattle.memory.proofs.Filling.{number-member, fill-end, fill-chosen, fill-passed}
+use Rattle.memory.proofs.Filling.{fill-end, fill-chosen, fill-passed}
 use Prim.Native.Nat.{ℕ, _<_}
 use borrow.Fn.Kinds.{In}
 use borrow.Fn.PlainCycle.{Measures, is, falls, and}
@@ -122,7 +123,7 @@ fill-from-freshen-requires t c κs =
     let store = now (c .before .before .before .before .before .before .before .before .before .before .before .before .before .before .args .store) in
     let p = c .before .before .before .before .before .before .before .before .before .before .before .before .before .before .pre .1 .0 in
     let h : c .before .before .before .before .before .before .before .before .before .before .before .before .before .before .args .i < length map / 8 = omega (arith, c .before .before .before .before .before .before .before .before .before .if1 .taken, c .before .before .before .before .before .before .before .before .before .before .records .ensures) in
-    let m = number-member map (c .before .before .before .before .before .before .before .before .before .before .before .before .before .before .args .i) h _ (c .before .before .before .before .before .before .before .before .record-at .ensures) in
+    let m = member map (length map / 8) (c .before .before .before .before .before .before .before .before .before .before .before .before .before .before .args .i) h _ (c .before .before .before .before .before .before .before .before .record-at .ensures) refl in
     let f = member-fields map (placed-ordered map (length store) p) _ m in
     let w = member-inside map (length store) p _ m in
     let k : length (c .before .before .before .before .fill-from .last .1 .0) ≡ length store = c .before .before .before .before .fill-from .kept .1 .0 in

@@ -5,13 +5,13 @@ use Rattle.memory.proofs.rooms.latch_holds.Statement.{statement}
 use Rattle.memory.proofs.rooms.latch_holds.Tie as tie
 use Rattle.memory.proofs.rooms.latch_holds.Reads as reads
 use Rattle.memory.proofs.rooms.latch_holds.Lts as lts
-use Rattle.banks.proofs.beginner.Reads as beginner-reads
+use Rattle.memory.proofs.rooms.value_from.Reads as value-from-reads
 use Rattle.memory.proofs.rooms.is_zero_from.Reads as is-zero-from-reads
 use Rattle.memory.proofs.rooms.latched_in.Reads as latched-in-reads
 
 -- src/rooms.rt:80:13
-beginner-requires : tie.Need-beginner-requires
-beginner-requires c κs = search needs
+value-from-requires : tie.Need-value-from-requires
+value-from-requires c κs = search needs
 
 -- src/rooms.rt:81:9
 latched-in-requires : tie.Need-latched-in-requires
@@ -34,4 +34,4 @@ returns-2 c = if-no _ _ (c .before .before .before .before .if1 .left) (cc)
 pub latch-holds-spec : {M : Type 1} → statement M
 latch-holds-spec =
     tie.close
-    (tie.spec beginner-requires latched-in-requires returns is-zero-from-requires returns-2)
+    (tie.spec value-from-requires latched-in-requires returns is-zero-from-requires returns-2)

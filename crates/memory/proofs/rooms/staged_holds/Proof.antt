@@ -6,7 +6,7 @@ use Rattle.memory.proofs.rooms.staged_holds.Statement.{statement}
 use Rattle.memory.proofs.rooms.staged_holds.Tie as tie
 use Rattle.memory.proofs.rooms.staged_holds.Reads as reads
 use Rattle.memory.proofs.rooms.staged_holds.Lts as lts
-use Rattle.banks.proofs.beginner.Reads as beginner-reads
+use Rattle.memory.proofs.rooms.value_from.Reads as value-from-reads
 use Rattle.memory.proofs.rooms.is_zero_from.Reads as is-zero-from-reads
 use Rattle.memory.proofs.rooms.staged_in.Reads as staged-in-reads
 
@@ -20,8 +20,8 @@ unfolding stagedHolds
 returns c = rw (eq-eqb _ _ (c .before .before .before .before .if1 .taken)) (cc)
 
 -- src/rooms.rt:56:9
-beginner-requires : tie.Need-beginner-requires
-beginner-requires c κs = placed-ordered _ _ (c .before .before .before .before .pre)
+value-from-requires : tie.Need-value-from-requires
+value-from-requires c κs = placed-ordered _ _ (c .before .before .before .before .pre)
 
 -- src/rooms.rt:57:5
 staged-in-requires : tie.Need-staged-in-requires
@@ -35,4 +35,4 @@ returns-2 c = rw (ne-eqb _ _ (c .before .before .if1 .left)) (cc)
 pub staged-holds-spec : {M : Type 1} → statement M
 staged-holds-spec =
     tie.close
-    (tie.spec is-zero-from-requires returns beginner-requires staged-in-requires returns-2)
+    (tie.spec is-zero-from-requires returns value-from-requires staged-in-requires returns-2)
