@@ -1,46 +1,49 @@
 -- Start, power-on and frame step, accepted or not: what they leave of the store, and that 7 to 12 hold again.
 -- Assumes nothing.
-use Prim.Native.Nat.{ℕ, zero, suc, _+_, _≤_, _<_}
-use mathlib.Core.Path.{_≡_, refl, sym, ap, _∙_}
-use mathlib.Core.Logic.{_⊎_, inl, inr}
-use mathlib.Core.Bool.{Bool, true, false, _&&_, _||_}
+use Prim.Native.Nat.{ℕ, zero, suc, _+_, _<_}
+use mathlib.Core.Path.{_≡_, refl, sym, _∙_}
+use mathlib.Core.Logic.{_⊎_, inl}
+use mathlib.Core.Bool.{Bool, true}
 use mathlib.Core.List.{List, [], _∷_, _++_}
 use native.Mathlib.Omega.{arith}
 use borrow.Author.Tests.{eqb-true, ne-eqb, eq-eqb, lt-ltb}
-use lib.Dec.{eqb, ltb}
+use lib.Dec.{ltb}
 use lib.ListN.{length}
-use Rattle.laws.specs.Choice.{if_then_else_}
+use Rattle.laws.specs.Lists.{every}
 use Rattle.laws.specs.Numbers.{Test, test, firstFailing, numbered}
-use Rattle.laws.specs.Outcome.{Outcome, leaves}
-use Rattle.laws.proofs.Tests.{if-by, if-eq, both}
+use Rattle.laws.specs.Outcome.{Outcome}
+use Rattle.laws.proofs.Tests.{if-eq}
 use Rattle.laws.proofs.Sides.{and-left, and-right}
 use Rattle.laws.proofs.Numbers.{none-exactly-if}
 use Rattle.laws.proofs.Joined.{joined-none, joined-some}
-use Rattle.banks.specs.Map.{recordsOf, writable}
-use Rattle.banks.specs.Rules.{isLock, checkTests, checkNumber}
+use Rattle.banks.specs.Map.{recordsOf}
+use Rattle.banks.specs.Rules.{checkTests, checkNumber}
 use Rattle.banks.specs.Lookup.{valueOf}
 use Rattle.banks.specs.Facts.{Member, Stands}
 use Rattle.banks.specs.declared.record.Record.{Record}
-use Rattle.banks.proofs.Standing.{stands, is-standing}
+use Rattle.banks.proofs.Standing.{check-stands}
 use Rattle.hearing.specs.Meaning.{meaningOf, closes}
 use Rattle.hearing.specs.declared.rooms.Who.{Who}
 use Rattle.hearing.specs.declared.rooms.Heard.{Heard}
-use Rattle.memory.specs.Filled.{chosen, fresh, filledOf}
-use Rattle.memory.specs.Rooms.{stagedHolds, latchHolds}
+use Rattle.memory.specs.Filled.{chosen, fresh}
+use Rattle.memory.specs.Rooms.{stagedHolds}
 use Rattle.memory.specs.declared.filled.Filling.the-variants.{PowerOn, Reset}
-use Rattle.unit.specs.State.{withWaiting, withDoor, shutDoor, poweredOn, zeroState}
-use Rattle.unit.specs.Rules.{addressHolds, waitingHolds, doorHolds, stateHolds}
+use Rattle.unit.specs.State.{poweredOn, zeroState}
+use Rattle.unit.specs.Rules.{addressHolds, waitingHolds, stateHolds}
 use Rattle.unit.specs.Due.{dueOf}
-use Rattle.unit.specs.Step.{quiet, answering, hearing, written, done, frameOf, powerOf, unless}
+use Rattle.unit.specs.Step.{quiet, hearing, written, done, frameOf, powerOf, unless}
 use Rattle.unit.specs.Step.{startNumber, startOf, powerNumber, powerOnOf, stepNumber, stepOf}
-use Rattle.unit.specs.Keeping.{RestStays, Rest-kept, OnlyOne, One-value-changes, StorePowered, PowersOn, Calls-power-on}
-use Rattle.unit.specs.Keeping.{PassesAgain, Accepted-again}
+use Rattle.unit.specs.Keeping.{RestStays, Rest-kept, OnlyOne, One-value-changes, StorePowered, PowersOn}
+use Rattle.unit.specs.Keeping.{Calls-power-on}
+use Rattle.unit.specs.Keeping.{Accepted-again}
 use Rattle.unit.specs.declared.state.State.{State}
 use Rattle.unit.specs.declared.state.Stepped.{Stepped}
 use Rattle.unit.specs.declared.due.Due.{Due}
-use Rattle.unit.specs.declared.due.Due.the-variants.{Nothing, Waits, Opens, Resets, Becomes, Loads, Answers, Writes, Reads}
+use Rattle.unit.specs.declared.due.Due.the-variants.{Nothing, Waits, Opens, Resets, Becomes, Loads, Answers}
+use Rattle.unit.specs.declared.due.Due.the-variants.{Writes, Reads}
 use Rattle.unit.proofs.Numbers.{calls-accepted}
-use Rattle.unit.proofs.Store.{none-latched-holds, write-rest, write-one, filled-rest, filled-left, filled-fresh, rest-same, stands-after}
+use Rattle.unit.proofs.Store.{rest-same, stands-after, filled-rest, filled-left, filled-fresh}
+use Rattle.unit.proofs.Rooms.{none-latched-holds, write-rest, write-one}
 use Rattle.unit.proofs.Keeping.{RulesHold, rules-hold, state-holds, shut-holds, heard-staged, frame-keeps}
 
 -- ---- what number 0 says, and back
@@ -61,133 +64,149 @@ record Sound (map store : List ℕ) (kept : ℕ) (s : State) : Type 0 where
   pub rules : RulesHold (recordsOf map) store s
 
 module _ (map store : List ℕ) (kept : ℕ) where
-  start-sound : (who : Who) → startNumber map store kept who ≡ 0 → Stands map store kept × (addressHolds (who .address) ≡ true)
-  unfolding startNumber checkNumber
+  -- what the tests of a state and a frame say, behind 7 to 11
+  parted : (us : List Test) → numbered us ≡ true → firstFailing (checkTests map store kept ++ us) ≡ 0
+      → Stands map store kept × (every (λ t. t .passes) us ≡ true)
+  unfolding checkNumber
+  parted us k e =
+      let ts = checkTests map store kept in
+      (check-stands map store kept .0 (first-none ts us e), none-exactly-if us k .0 (last-none ts us refl e))
+
+  joined : (us : List Test) → numbered us ≡ true → Stands map store kept → every (λ t. t .passes) us ≡ true
+      → firstFailing (checkTests map store kept ++ us) ≡ 0
+  unfolding checkNumber
+  joined us k S e =
+      joined-none (checkTests map store kept) us refl (check-stands map store kept .1 S) ∙ none-exactly-if us k .1 e
+
+  start-sound : (who : Who) → startNumber map store kept who ≡ 0
+      → Stands map store kept × (addressHolds (who .address) ≡ true)
+  unfolding startNumber
   start-sound who e =
-      let us : List Test = test 6 (addressHolds (who .address)) ∷ [] in
-      let six = none-exactly-if us refl .0 (last-none (checkTests map store kept) us refl e) in
-      (stands map store kept (first-none (checkTests map store kept) us e), and-left (addressHolds (who .address)) true six)
+      let p = parted (test 6 (addressHolds (who .address)) ∷ []) refl e in
+      (p .0, and-left (addressHolds (who .address)) true (p .1))
 
   power-sound : (s : State) → powerNumber map store kept s ≡ 0 → Sound map store kept s
-  unfolding powerNumber checkNumber
+  unfolding powerNumber
   power-sound s e =
-      let us : List Test = test 12 (stateHolds (recordsOf map) store s) ∷ [] in
-      let twelve = none-exactly-if us refl .0 (last-none (checkTests map store kept) us refl e) in
-      record {
-        standing = stands map store kept (first-none (checkTests map store kept) us e);
-        rules = rules-hold (recordsOf map) store s (and-left (stateHolds (recordsOf map) store s) true twelve);
-      }
+      let rs = recordsOf map in
+      let p = parted (test 12 (stateHolds rs store s) ∷ []) refl e in
+      record { standing = p .0; rules = rules-hold rs store s (and-left (stateHolds rs store s) true (p .1)) }
 
   step-sound : (s : State) (frame : ℕ) → stepNumber map store kept s frame ≡ 0 → Sound map store kept s
-  unfolding stepNumber checkNumber
+  unfolding stepNumber
   step-sound s frame e =
-      let us : List Test = test 12 (stateHolds (recordsOf map) store s) ∷ test 1 (ltb frame 16777216) ∷ [] in
-      let twelve = none-exactly-if us refl .0 (last-none (checkTests map store kept) us refl e) in
-      record {
-        standing = stands map store kept (first-none (checkTests map store kept) us e);
-        rules = rules-hold (recordsOf map) store s (and-left (stateHolds (recordsOf map) store s) _ twelve);
-      }
+      let rs = recordsOf map in
+      let p = parted (test 12 (stateHolds rs store s) ∷ test 1 (ltb frame 16777216) ∷ []) refl e in
+      record { standing = p .0; rules = rules-hold rs store s (and-left (stateHolds rs store s) _ (p .1)) }
 
   sound-power : (s : State) → Sound map store kept s → powerNumber map store kept s ≡ 0
-  unfolding powerNumber checkNumber firstFailing
+  unfolding powerNumber
   sound-power s h =
-      joined-none (checkTests map store kept) (test 12 (stateHolds (recordsOf map) store s) ∷ []) refl
-      (is-standing map store kept (h .standing)) ∙ rw (state-holds (recordsOf map) store s (h .rules))
+      joined (test 12 (stateHolds (recordsOf map) store s) ∷ []) refl (h .standing)
+      (rw (state-holds (recordsOf map) store s (h .rules)))
 
-  sound-step : (s : State) (frame : ℕ) → Sound map store kept s → frame < 16777216 → stepNumber map store kept s frame ≡ 0
-  unfolding stepNumber checkNumber firstFailing
+  sound-step : (s : State) (frame : ℕ) → Sound map store kept s → frame < 16777216
+      → stepNumber map store kept s frame ≡ 0
+  unfolding stepNumber
   sound-step s frame h l =
-      joined-none (checkTests map store kept)
-      (test 12 (stateHolds (recordsOf map) store s) ∷ test 1 (ltb frame 16777216) ∷ []) refl
-      (is-standing map store kept (h .standing)) ∙ rw (state-holds (recordsOf map) store s (h .rules), lt-ltb frame 16777216 l)
+      joined (test 12 (stateHolds (recordsOf map) store s) ∷ test 1 (ltb frame 16777216) ∷ []) refl (h .standing)
+      (rw (state-holds (recordsOf map) store s (h .rules), lt-ltb frame 16777216 l))
 
 -- ---- the store after a frame
 
 module _ (map store image : List ℕ) (s : State) (heard : Heard) (S : Sound map store (length image) s) where
-  long : length image ≡ length store
-  long = S .standing .as-long
+  abbrev framed : Outcome Stepped
+  framed = frameOf (recordsOf map) store image s heard
 
   closing : Bool
   closing = closes (meaningOf (s .who) (heard .frame))
 
-  abbrev acted : Due → Outcome Stepped
-  acted due = done (recordsOf map) store image (hearing s closing) heard due
+  -- the state when the frame has been heard, before what is due is done
+  abbrev before : State
+  before = hearing s closing
 
-  staged : stagedHolds (recordsOf map) store (hearing s closing .door .staged) ≡ true
-  staged = heard-staged map store image s heard (S .standing .in-place) long (S .rules) closing
+  staged : stagedHolds (recordsOf map) store (before .door .staged) ≡ true
+  staged =
+      heard-staged map store image s heard (S .standing .in-place) (S .standing .as-long) (S .rules) closing
 
-  done-rest : (due : Due) → RestStays map store (acted due .store)
+  record Changes (due : Due) (after : List ℕ) : Type 0 where
+    pub rest : RestStays map store after
+    pub one : ((dtr0 : ℕ) → due ≡ Resets dtr0 → ⊥) → (after ≡ store) ⊎ OnlyOne map store after
+
+  same : (due : Due) → Changes due store
+  same due = record { rest = rest-same map store; one = λ e. inl refl }
+
+  done-changes : (due : Due) → Changes due (done (recordsOf map) store image before heard due .store)
   unfolding done written
-  done-rest Nothing = rest-same map store
-  done-rest Waits = rest-same map store
-  done-rest Opens = rest-same map store
-  done-rest (Resets dtr0) = filled-rest map (length store) (S .standing .in-place) store image refl long (Reset dtr0)
-  done-rest (Becomes who) = rest-same map store
-  done-rest (Loads registers) = rest-same map store
-  done-rest (Answers byte) = rest-same map store
-  done-rest (Writes bank location byte replying) =
-      write-rest map (length store) (S .standing .in-place) store (hearing s closing .door .staged) staged refl bank location byte
-  done-rest (Reads bank location) = rest-same map store
+  done-changes Nothing = same Nothing
+  done-changes Waits = same Waits
+  done-changes Opens = same Opens
+  done-changes (Resets dtr0) =
+      record {
+        rest =
+            filled-rest map (length store) (S .standing .in-place) store image refl (S .standing .as-long) (Reset dtr0);
+        one = λ e. absurd (e dtr0 refl);
+      }
+  done-changes (Becomes who) = same (Becomes who)
+  done-changes (Loads registers) = same (Loads registers)
+  done-changes (Answers byte) = same (Answers byte)
+  done-changes (Writes bank location byte replying) =
+      let place = S .standing .in-place in
+      record {
+        rest = write-rest map (length store) place store (before .door .staged) staged refl bank location byte;
+        one = λ e. write-one map (length store) place store (before .door .staged) staged refl bank location byte;
+      }
+  done-changes (Reads bank location) = same (Reads bank location)
 
-  done-one : (due : Due) → ((dtr0 : ℕ) → due ≡ Resets dtr0 → ⊥)
-      → (acted due .store ≡ store) ⊎ OnlyOne map store (acted due .store)
-  unfolding done written
-  done-one Nothing e = inl refl
-  done-one Waits e = inl refl
-  done-one Opens e = inl refl
-  done-one (Resets dtr0) e = absurd (e dtr0 refl)
-  done-one (Becomes who) e = inl refl
-  done-one (Loads registers) e = inl refl
-  done-one (Answers byte) e = inl refl
-  done-one (Writes bank location byte replying) e =
-      write-one map (length store) (S .standing .in-place) store (hearing s closing .door .staged) staged refl bank location byte
-  done-one (Reads bank location) e = inl refl
-
-  frame-rest : RestStays map store (frameOf (recordsOf map) store image s heard .store)
+  changes : Changes (dueOf (recordsOf map) s heard) (framed .store)
   unfolding frameOf closing
-  frame-rest = done-rest (dueOf (recordsOf map) s heard)
-
-  frame-one : ((dtr0 : ℕ) → dueOf (recordsOf map) s heard ≡ Resets dtr0 → ⊥)
-      → (frameOf (recordsOf map) store image s heard .store ≡ store)
-      ⊎ OnlyOne map store (frameOf (recordsOf map) store image s heard .store)
-  unfolding frameOf closing
-  frame-one e = done-one (dueOf (recordsOf map) s heard) e
+  changes = done-changes (dueOf (recordsOf map) s heard)
 
   -- 7 to 12 hold after it
-  frame-sound : Sound map (frameOf (recordsOf map) store image s heard .store) (length image)
-      (frameOf (recordsOf map) store image s heard .answer .state)
+  frame-sound : Sound map (framed .store) (length image) (framed .answer .state)
   frame-sound =
       record {
-        standing = stands-after map store (frameOf (recordsOf map) store image s heard .store) (length image) (S .standing) frame-rest;
-        rules = frame-keeps map store image s heard (S .standing .in-place) long (S .rules);
+        standing = stands-after map store (framed .store) (length image) (S .standing) (changes .rest);
+        rules = frame-keeps map store image s heard (S .standing .in-place) (S .standing .as-long) (S .rules);
       }
 
 -- ---- the store after a power-on
 
 module _ (map store image : List ℕ) (who : Who) (S : Stands map store (length image)) where
-  powered-rest : RestStays map store (powerOf (recordsOf map) store image who .store)
+  abbrev powered : Outcome Stepped
+  powered = powerOf (recordsOf map) store image who
+
+  powered-rest : RestStays map store (powered .store)
   unfolding powerOf
   powered-rest = filled-rest map (length store) (S .in-place) store image refl (S .as-long) PowerOn
 
-  powered-store : StorePowered map store image (powerOf (recordsOf map) store image who .store)
-  unfolding powerOf chosen fresh
+  -- a RAM-RW value takes its fresh bytes, another stays
+  ram-fresh : (r : Record) → Member r map → r .kind ≡ 2 → valueOf r (powered .store) ≡ fresh image r
+  unfolding powerOf chosen
+  ram-fresh r m k =
+      filled-fresh map (length store) (S .in-place) store image refl (S .as-long) PowerOn r m (eq-eqb (r .kind) 2 k)
+
+  others-stay : (r : Record) → Member r map → (r .kind ≡ 2 → ⊥) → valueOf r (powered .store) ≡ valueOf r store
+  unfolding powerOf chosen
+  others-stay r m k =
+      filled-left map (length store) (S .in-place) store image refl (S .as-long) PowerOn r m (ne-eqb (r .kind) 2 k)
+
+  powered-store : StorePowered map store image (powered .store)
+  unfolding fresh
   powered-store =
       record {
-        locks = λ r m e.
-            let k : r .kind ≡ 2 = search (and-left, and-right, eqb-true) in
-            filled-fresh map (length store) (S .in-place) store image refl (S .as-long) PowerOn r m (eq-eqb (r .kind) 2 k) ∙ rw e;
-        ram = λ r m e k.
-            filled-fresh map (length store) (S .in-place) store image refl (S .as-long) PowerOn r m (eq-eqb (r .kind) 2 k) ∙ rw e;
-        others = λ r m k. filled-left map (length store) (S .in-place) store image refl (S .as-long) PowerOn r m (ne-eqb (r .kind) 2 k);
+        locks = λ r m e. ram-fresh r m (search (and-left, and-right, eqb-true)) ∙ rw e;
+        ram = λ r m e k. ram-fresh r m k ∙ rw e;
+        others = others-stay;
         under-none = powered-rest .under-none;
       }
 
   powered-sound : addressHolds (who .address) ≡ true
-      → Sound map (powerOf (recordsOf map) store image who .store) (length image) (powerOf (recordsOf map) store image who .answer .state)
+      → Sound map (powered .store) (length image) (powered .answer .state)
   unfolding powerOf quiet poweredOn waitingHolds
   powered-sound e =
       record {
-        standing = stands-after map store _ (length image) S powered-rest;
+        standing = stands-after map store (powered .store) (length image) S powered-rest;
         rules = record {
           address = e;
           waiting = refl;
@@ -196,7 +215,7 @@ module _ (map store image : List ℕ) (who : Who) (S : Stands map store (length 
         };
       }
 
-  powers-on : (o : Outcome Stepped) → o ≡ powerOf (recordsOf map) store image who → PowersOn map store image who o
+  powers-on : (o : Outcome Stepped) → o ≡ powered → PowersOn map store image who o
   unfolding powerOf quiet poweredOn
   powers-on o e =
       rw e (record {
@@ -225,48 +244,50 @@ unless-store P n s store o base accepted = if-eq (λ (x : Outcome Stepped). P (x
 pub rest-kept : Rest-kept
 unfolding startOf powerOnOf stepOf
 rest-kept map store image =
+    let kept = length image in
     record {
       start = λ who.
-          unless-store (RestStays map store) _ zeroState store (powerOf (recordsOf map) store image who) (rest-same map store)
-          (λ e. powered-rest map store image who (start-sound map store (length image) who e .0));
+          unless-store (RestStays map store) _ zeroState store _ (rest-same map store)
+          (λ e. powered-rest map store image who (start-sound map store kept who e .0));
       power-on = λ s.
-          unless-store (RestStays map store) _ s store (powerOf (recordsOf map) store image (s .who)) (rest-same map store)
-          (λ e. powered-rest map store image (s .who) (power-sound map store (length image) s e .standing));
+          unless-store (RestStays map store) _ s store _ (rest-same map store)
+          (λ e. powered-rest map store image (s .who) (power-sound map store kept s e .standing));
       step = λ s heard.
-          unless-store (RestStays map store) _ s store (frameOf (recordsOf map) store image s heard) (rest-same map store)
-          (λ e. frame-rest map store image s heard (step-sound map store (length image) s (heard .frame) e));
+          unless-store (RestStays map store) _ s store _ (rest-same map store)
+          (λ e. changes map store image s heard (step-sound map store kept s (heard .frame) e) .rest);
     }
 
 pub one-value-changes : One-value-changes
 unfolding stepOf
 one-value-changes map store image s heard no-reset =
-    unless-store (λ after. (after ≡ store) ⊎ OnlyOne map store after) _ s store
-    (frameOf (recordsOf map) store image s heard) (inl refl)
-    (λ e. frame-one map store image s heard (step-sound map store (length image) s (heard .frame) e) no-reset)
+    unless-store (λ after. (after ≡ store) ⊎ OnlyOne map store after) _ s store _ (inl refl)
+    (λ e. changes map store image s heard (step-sound map store (length image) s (heard .frame) e) .one no-reset)
 
 pub calls-power-on : Calls-power-on
 calls-power-on map store image =
+    let accepted = calls-accepted map store image in
     record {
       start = λ who e.
-          powers-on map store image who (start-sound map store (length image) who e .0) (startOf map store image who)
-          (calls-accepted map store image .start who e);
+          powers-on map store image who (start-sound map store (length image) who e .0) _ (accepted .start who e);
       power-on = λ s e.
-          powers-on map store image (s .who) (power-sound map store (length image) s e .standing) (powerOnOf map store image s)
-          (calls-accepted map store image .power-on s e);
+          powers-on map store image (s .who) (power-sound map store (length image) s e .standing) _
+          (accepted .power-on s e);
     }
 
 pub accepted-again : Accepted-again
 accepted-again map store image =
+    let kept = length image in
+    let accepted = calls-accepted map store image in
     record {
       start = λ who e.
-          let k = start-sound map store (length image) who e in
-          rw (calls-accepted map store image .start who e) (sound-power map _ (length image) _ (powered-sound map store image who (k .0) (k .1)));
+          let k = start-sound map store kept who e in
+          rw (accepted .start who e) (sound-power map _ kept _ (powered-sound map store image who (k .0) (k .1)));
       power-on = λ s e.
-          let k = power-sound map store (length image) s e in
-          rw (calls-accepted map store image .power-on s e)
-          (sound-power map _ (length image) _ (powered-sound map store image (s .who) (k .standing) (k .rules .address)));
+          let k = power-sound map store kept s e in
+          rw (accepted .power-on s e)
+          (sound-power map _ kept _ (powered-sound map store image (s .who) (k .standing) (k .rules .address)));
       step = λ s heard e.
-          let k = step-sound map store (length image) s (heard .frame) e in
-          rw (calls-accepted map store image .step s heard e) (sound-power map _ (length image) _ (frame-sound map store image s heard k));
-      next = λ s frame e l. sound-step map store (length image) s frame (power-sound map store (length image) s e) l;
+          let k = step-sound map store kept s (heard .frame) e in
+          rw (accepted .step s heard e) (sound-power map _ kept _ (frame-sound map store image s heard k));
+      next = λ s frame e l. sound-step map store kept s frame (power-sound map store kept s e) l;
     }

@@ -2,37 +2,33 @@
 -- Assumes nothing.
 use Prim.Native.Nat.{ℕ}
 use mathlib.Core.Path.{_≡_, refl, sym, ap, _∙_}
-use mathlib.Core.Bool.{Bool, true, false, _&&_}
+use mathlib.Core.Bool.{true, false, _&&_}
 use mathlib.Core.List.{List}
 use borrow.Author.Tests.{eqb-true}
 use lib.Dec.{eqb}
 use Rattle.laws.specs.Outcome.{Outcome, leaves}
-use Rattle.laws.proofs.Tests.{if-by, both, clash}
+use Rattle.laws.proofs.Tests.{both, clash}
 use Rattle.frames.specs.Read.{readOf}
 use Rattle.frames.specs.declared.message.Message.{Message}
 use Rattle.frames.specs.declared.message.Reading.{Reading}
-use Rattle.banks.specs.Map.{recordsOf, mapped}
+use Rattle.banks.specs.Map.{recordsOf}
 use Rattle.banks.specs.declared.record.Record.{Record}
 use Rattle.hearing.specs.Meaning.{meaningOf, readingMeaning}
 use Rattle.hearing.specs.Pairs.{noneWaits, waitsFor, completes}
 use Rattle.hearing.specs.declared.rooms.Who.{Who}
 use Rattle.hearing.specs.declared.rooms.Heard.{Heard}
-use Rattle.hearing.specs.declared.meaning.Once.{Once}
-use Rattle.hearing.specs.declared.meaning.Twice.{Twice}
-use Rattle.hearing.specs.declared.meaning.Meaning.{Meaning}
-use Rattle.hearing.specs.declared.meaning.Meaning.the-variants.{Foreign, NotObeyed, AtOnce, NeedsPair}
+use Rattle.hearing.specs.declared.meaning.Meaning.the-variants.{Foreign}
 use Rattle.unit.specs.State.{withWaiting, withDoor, shutDoor}
 use Rattle.unit.specs.Rules.{addressHolds, waitingHolds, stateHolds}
-use Rattle.unit.specs.Due.{writeDue, readDue, onceDue, dueBy, dueOf}
+use Rattle.unit.specs.Due.{dueBy, dueOf}
 use Rattle.unit.specs.Step.{quiet, hearing, done, frameOf, stepOf}
 use Rattle.unit.specs.Promises.{numberOf}
 use Rattle.unit.specs.Leaving.{Foreign-passes-by, noCommand, next, Interrupted, Event-breaks-pair}
 use Rattle.unit.specs.declared.state.State.{State}
 use Rattle.unit.specs.declared.state.Stepped.{Stepped}
-use Rattle.unit.specs.declared.due.Due.{Due}
-use Rattle.unit.specs.declared.due.Due.the-variants.{Nothing, Waits, Opens, Resets, Becomes, Loads, Answers}
-use Rattle.unit.specs.declared.due.Due.the-variants.{Writes, Reads}
+use Rattle.unit.specs.declared.due.Due.the-variants.{Waits}
 use Rattle.unit.proofs.Numbers.{calls-accepted, calls-numbered}
+use Rattle.unit.proofs.Dues.{pair-closes, pair-waits, waits-pair}
 
 -- where none waits, what is not in use is zero
 pub none-waiting : (s : State) → waitingHolds s ≡ true → s .waiting .held ≡ false → s .waiting ≡ noneWaits
@@ -64,54 +60,12 @@ no-command-foreign who (Reading.Got (Message.Event scheme high low information))
 no-command-foreign who (Reading.Got (Message.Power group short)) e = refl
 no-command-foreign who (Reading.Refused number) e = refl
 
--- only a command that needs a pair waits
-isWaits : Due → Bool
-isWaits Nothing = false
-isWaits Waits = true
-isWaits Opens = false
-isWaits (Resets dtr0) = false
-isWaits (Becomes who) = false
-isWaits (Loads registers) = false
-isWaits (Answers byte) = false
-isWaits (Writes bank location byte replying) = false
-isWaits (Reads bank location) = false
-
-module _ (rs : List Record) (s : State) where
-  Goes : Due → Type 0
-  Goes due = isWaits due ≡ false
-
-  write-goes : (location byte : ℕ) (replies : Bool)
-      → Goes (writeDue rs (s .door .enabled) (s .registers) location byte replies)
-  unfolding writeDue isWaits Goes
-  write-goes location byte replies =
-      if-by Goes (s .door .enabled && mapped rs (s .registers .dtr1)) (λ e. refl) (λ e. refl)
-
-  once-goes : (once : Once) → isWaits (onceDue rs s once) ≡ false
-  unfolding onceDue readDue isWaits Goes
-  once-goes Once.QueryMissingShortAddress = if-by Goes (eqb (s .who .address) 255) (λ e. refl) (λ e. refl)
-  once-goes (Once.QueryContentDtr k) = refl
-  once-goes Once.ReadMemoryLocation = if-by Goes (mapped rs (s .registers .dtr1)) (λ e. refl) (λ e. refl)
-  once-goes (Once.QueryDeviceGroups k) = refl
-  once-goes (Once.WriteMemoryLocation byte replies) = write-goes (s .registers .dtr0) byte replies
-  once-goes (Once.DirectWriteMemory offset byte) = write-goes offset byte true
-  once-goes (Once.SetDtr k byte) = refl
-  once-goes (Once.SetDtrs k high low) = refl
-
-  pub waits-needs-pair : (heard : Heard) (m : Meaning) → dueBy rs s heard m ≡ Waits
-      → (twice : Twice) × (m ≡ NeedsPair twice)
-  unfolding dueBy isWaits
-  waits-needs-pair heard Foreign e = clash (isWaits Nothing) (ap isWaits e) refl
-  waits-needs-pair heard NotObeyed e = clash (isWaits Nothing) (ap isWaits e) refl
-  waits-needs-pair heard (AtOnce once) e = clash (isWaits (onceDue rs s once)) (ap isWaits e) (once-goes once)
-  waits-needs-pair heard (NeedsPair twice) e = (twice, refl)
-
 -- a first half shuts the door and waits; nothing else changes
 pub first-half : (rs : List Record) (store image : List ℕ) (s : State) (heard : Heard) → dueOf rs s heard ≡ Waits
     → frameOf rs store image s heard ≡ leaves (quiet (withWaiting (withDoor s shutDoor) (waitsFor heard))) store
 unfolding frameOf dueOf done hearing withWaiting
 first-half rs store image s heard e =
-    let p = waits-needs-pair rs s heard (meaningOf (s .who) (heard .frame)) e in
-    rw e (rw (p .1))
+    rw (e, pair-closes (meaningOf (s .who) (heard .frame)) (waits-pair rs s heard e))
 
 -- after a first half and a foreign frame
 unfoldable halved : State → Heard → State
@@ -119,10 +73,9 @@ halved s first = withWaiting (withWaiting (withDoor s shutDoor) (waitsFor first)
 
 again-waits : (rs : List Record) (s : State) (first again : Heard) → dueOf rs s first ≡ Waits
     → again .frame ≡ first .frame → dueOf rs (halved s first) again ≡ Waits
-unfolding dueOf dueBy halved withWaiting withDoor completes
+unfolding dueOf halved withWaiting withDoor completes
 again-waits rs s first again e q =
-    let p = waits-needs-pair rs s first (meaningOf (s .who) (first .frame)) e in
-    rw (q, p .1)
+    pair-waits rs (halved s first) again (meaningOf (s .who) (again .frame)) (rw q (waits-pair rs s first e)) refl
 
 -- an accepted call is the frame step
 accepted-step : (map store image : List ℕ) (s : State) (heard : Heard) → numberOf (stepOf map store image s heard) ≡ 0

@@ -1,52 +1,33 @@
 -- Accepted stays accepted: what start, power-on and a frame step leave keeps the rules 7 to 12.
 -- Assumes nothing.
-use Prim.Native.Nat.{ℕ, _+_, _≤_, _<_}
-use mathlib.Core.Path.{_≡_, refl, sym, ap, _∙_}
-use mathlib.Core.Logic.{_⊎_, inl, inr, ⊎-elim}
-use mathlib.Core.Bool.{Bool, true, false, not, _&&_, _||_}
-use mathlib.Core.List.{List, [], _∷_, _++_}
-use native.Mathlib.Omega.{arith}
-use borrow.Author.Tests.{eqb-true, ltb-true, eq-eqb, lt-ltb, le-leb}
-use lib.Dec.{eqb, ltb, leb}
+use Prim.Native.Nat.{ℕ}
+use mathlib.Core.Path.{_≡_, refl}
+use mathlib.Core.Bool.{Bool, true, false, _||_}
+use mathlib.Core.List.{List}
+use lib.Dec.{eqb}
 use lib.ListN.{length}
-use Rattle.laws.specs.Choice.{if_then_else_}
-use Rattle.laws.specs.Numbers.{test, firstFailing}
-use Rattle.laws.specs.Outcome.{Outcome, leaves}
-use Rattle.laws.proofs.Tests.{if-by, both, and-of}
-use Rattle.laws.proofs.Sides.{either, or-left, or-right, and-left, and-right}
-use Rattle.laws.proofs.Numbers.{none-exactly-if}
-use Rattle.banks.specs.Map.{recordsOf, mapped}
-use Rattle.banks.specs.Rules.{placed, checkTests, checkNumber}
-use Rattle.banks.specs.Facts.{Stands}
+use Rattle.laws.specs.Outcome.{Outcome}
+use Rattle.laws.proofs.Tests.{both}
+use Rattle.laws.proofs.Sides.{and-right}
+use Rattle.banks.specs.Map.{recordsOf}
+use Rattle.banks.specs.Rules.{placed}
 use Rattle.banks.specs.declared.record.Record.{Record}
-use Rattle.banks.proofs.Standing.{stands, is-standing}
-use Rattle.hearing.specs.Meaning.{meaningOf, closes}
-use Rattle.hearing.specs.Pairs.{noneWaits, waitsFor, completes}
+use Rattle.hearing.specs.Meaning.{meaningOf}
 use Rattle.hearing.specs.declared.rooms.Who.{Who}
 use Rattle.hearing.specs.declared.rooms.Heard.{Heard}
-use Rattle.hearing.specs.declared.meaning.Once.{Once}
-use Rattle.hearing.specs.declared.meaning.Twice.{Twice}
-use Rattle.hearing.specs.declared.meaning.Meaning.{Meaning}
-use Rattle.hearing.specs.declared.meaning.Meaning.the-variants.{Foreign, NotObeyed, AtOnce, NeedsPair}
-use Rattle.memory.specs.Staged.{noneStaged, writeOf}
-use Rattle.memory.specs.Latched.{readOf}
-use Rattle.memory.specs.Filled.{filledOf}
 use Rattle.memory.specs.Rooms.{stagedHolds, latchHolds}
-use Rattle.memory.specs.declared.filled.Filling.the-variants.{PowerOn, Reset}
 use Rattle.memory.proofs.StagedRoom.{none-staged-holds}
-use Rattle.unit.specs.State.{withWho, withRegisters, withWaiting, withDoor, withLatch, shutDoor, openDoor, poweredOn}
+use Rattle.unit.specs.State.{withWho, withRegisters, withWaiting, withDoor, withLatch, shutDoor, openDoor}
 use Rattle.unit.specs.Rules.{addressHolds, needsPair, waitingHolds, doorHolds, stateHolds}
-use Rattle.unit.specs.Due.{withDtr, inGroups, shortDue, writeDue, readDue, onceDue, pairDue, dueBy, dueOf}
-use Rattle.unit.specs.Step.{quiet, answering, hearing, raised, written, readBy, done, frameOf, powerOf}
-use Rattle.unit.specs.Step.{startNumber, startOf, powerNumber, powerOnOf, stepNumber, stepOf}
-use Rattle.unit.specs.Keeping.{RestStays, AcceptedAgain, Accepted-again}
+use Rattle.unit.specs.Step.{quiet, answering, hearing, raised, written, readBy, done, frameOf}
 use Rattle.unit.specs.declared.state.Registers.{Registers}
 use Rattle.unit.specs.declared.state.State.{State}
 use Rattle.unit.specs.declared.state.Stepped.{Stepped}
 use Rattle.unit.specs.declared.due.Due.{Due}
-use Rattle.unit.specs.declared.due.Due.the-variants.{Nothing, Waits, Opens, Resets, Becomes, Loads, Answers, Writes, Reads}
-use Rattle.unit.proofs.Numbers.{calls-accepted}
-use Rattle.unit.proofs.Store.{none-latched-holds, write-rest, staged-after, latch-after, filled-rest, rest-same, stands-after}
+use Rattle.unit.specs.declared.due.Due.the-variants.{Nothing, Waits, Opens, Resets, Becomes, Loads, Answers}
+use Rattle.unit.specs.declared.due.Due.the-variants.{Writes, Reads}
+use Rattle.unit.proofs.Dues.{Cases, by-due}
+use Rattle.unit.proofs.Rooms.{staged-after, latch-after}
 
 -- ---- the rules of a state, one by one
 
@@ -84,14 +65,6 @@ door-staged : (rs : List Record) (store : List ℕ) (s : State) → doorHolds rs
 unfolding doorHolds
 door-staged rs store s e = and-right (s .door .enabled || eqb (s .door .staged .count) 0) _ e
 
--- SET SHORT ADDRESS takes only an address
-short-holds : (dtr0 : ℕ) → (ltb dtr0 0x40 || eqb dtr0 255) ≡ true → addressHolds dtr0 ≡ true
-short-holds dtr0 e =
-    ⊎-elim
-    (λ t. let l : dtr0 < 64 = ltb-true dtr0 0x40 t in or-left (leb dtr0 63) _ (le-leb dtr0 63 (omega arith)))
-    (λ t. or-right (leb dtr0 63) _ t)
-    (either (ltb dtr0 0x40) (eqb dtr0 255) e)
-
 module _ (map store image : List ℕ) (s : State) (heard : Heard) (place : placed map (length store) ≡ true)
     (long : length image ≡ length store) (h : RulesHold (recordsOf map) store s) where
   abbrev acted : Bool → Due → Outcome Stepped
@@ -127,23 +100,28 @@ module _ (map store image : List ℕ) (s : State) (heard : Heard) (place : place
 
   waits : needsPair (meaningOf (s .who) (heard .frame)) ≡ true → Kept true Waits
   unfolding Kept hearing done quiet withWaiting withDoor waitingHolds
-  waits e = record { address = h .address; waiting = rw e; door = shut-holds (recordsOf map) store _ refl; latch = h .latch }
+  waits e =
+      record { address = h .address; waiting = rw e; door = shut-holds (recordsOf map) store _ refl; latch = h .latch }
 
   opens : Kept true Opens
   unfolding Kept hearing done quiet withWaiting withDoor waitingHolds
-  opens = record { address = h .address; waiting = refl; door = open-holds (recordsOf map) store _ refl; latch = h .latch }
+  opens =
+      record { address = h .address; waiting = refl; door = open-holds (recordsOf map) store _ refl; latch = h .latch }
 
   -- the store changes, and behind the shut door nothing is staged
   resets : (dtr0 : ℕ) → Kept true (Resets dtr0)
   unfolding Kept hearing done quiet withWaiting withDoor waitingHolds
-  resets dtr0 = record { address = h .address; waiting = refl; door = shut-holds (recordsOf map) _ _ refl; latch = h .latch }
+  resets dtr0 =
+      record { address = h .address; waiting = refl; door = shut-holds (recordsOf map) _ _ refl; latch = h .latch }
 
   -- nothing waits for the old address or groups
   becomes : (who : Who) → addressHolds (who .address) ≡ true → Kept true (Becomes who)
   unfolding Kept hearing done quiet withWaiting withDoor withWho waitingHolds
-  becomes who e = record { address = e; waiting = refl; door = shut-holds (recordsOf map) store _ refl; latch = h .latch }
+  becomes who e =
+      record { address = e; waiting = refl; door = shut-holds (recordsOf map) store _ refl; latch = h .latch }
 
-  writes : s .door .enabled ≡ true → (bank location byte : ℕ) (replying : Bool) → Kept false (Writes bank location byte replying)
+  writes : s .door .enabled ≡ true → (bank location byte : ℕ) (replying : Bool)
+      → Kept false (Writes bank location byte replying)
   unfolding Kept hearing done written answering raised withWaiting withDoor withRegisters waitingHolds doorHolds
   writes e bank location byte replying =
       record {
@@ -163,45 +141,21 @@ module _ (map store image : List ℕ) (s : State) (heard : Heard) (place : place
         latch = latch-after map (length store) place store refl (s .latch) bank location (h .latch);
       }
 
-  write-due : (location byte : ℕ) (replies : Bool)
-      → Kept false (writeDue (recordsOf map) (s .door .enabled) (s .registers) location byte replies)
-  unfolding writeDue
-  write-due location byte replies =
-      if-by (Kept false) (s .door .enabled && mapped (recordsOf map) (s .registers .dtr1))
-      (λ e. writes (both (s .door .enabled) _ e .0) (s .registers .dtr1) location byte replies) (λ e. nothing false)
-
-  at-once : (once : Once) → Kept (closes (AtOnce once)) (onceDue (recordsOf map) s once)
-  unfolding onceDue readDue
-  at-once Once.QueryMissingShortAddress =
-      if-by (Kept true) (eqb (s .who .address) 255) (λ e. answers true 0xFF) (λ e. nothing true)
-  at-once (Once.QueryContentDtr k) = answers false _
-  at-once Once.ReadMemoryLocation =
-      if-by (Kept true) (mapped (recordsOf map) (s .registers .dtr1)) (λ e. reads _ _) (λ e. nothing true)
-  at-once (Once.QueryDeviceGroups k) = answers true _
-  at-once (Once.WriteMemoryLocation byte replies) = write-due (s .registers .dtr0) byte replies
-  at-once (Once.DirectWriteMemory offset byte) = write-due offset byte true
-  at-once (Once.SetDtr k byte) = loads _
-  at-once (Once.SetDtrs k high low) = loads _
-
-  paired : (twice : Twice) → Kept true (pairDue s twice)
-  unfolding pairDue shortDue
-  paired Twice.ResetMemoryBank = resets (s .registers .dtr0)
-  paired Twice.SetShortAddress =
-      if-by (Kept true) (ltb (s .registers .dtr0) 0x40 || eqb (s .registers .dtr0) 255)
-      (λ e. becomes _ (short-holds (s .registers .dtr0) e)) (λ e. nothing true)
-  paired Twice.EnableWriteMemory = opens
-  paired (Twice.AddToDeviceGroups half) = becomes _ (h .address)
-  paired (Twice.RemoveFromDeviceGroups half) = becomes _ (h .address)
-
-  by-meaning : (m : Meaning) → meaningOf (s .who) (heard .frame) ≡ m → Kept (closes m) (dueBy (recordsOf map) s heard m)
-  unfolding dueBy
-  by-meaning Foreign e = nothing false
-  by-meaning NotObeyed e = nothing false
-  by-meaning (AtOnce once) e = at-once once
-  by-meaning (NeedsPair twice) e =
-      if-by (Kept true) (completes (s .waiting) heard) (λ c. paired twice) (λ c. waits (ap needsPair e))
+  all-kept : Cases (recordsOf map) s heard Kept
+  all-kept =
+      record {
+        nothing = nothing;
+        waits = waits;
+        opens = opens;
+        resets = resets;
+        becomes = λ who a. becomes who (a (h .address));
+        loads = loads;
+        answers = answers;
+        writes = writes;
+        reads = reads;
+      }
 
   pub frame-keeps : RulesHold (recordsOf map) (frameOf (recordsOf map) store image s heard .store)
       (frameOf (recordsOf map) store image s heard .answer .state)
-  unfolding Kept frameOf dueOf
-  frame-keeps = by-meaning (meaningOf (s .who) (heard .frame)) refl
+  unfolding Kept frameOf
+  frame-keeps = by-due (recordsOf map) s heard Kept all-kept

@@ -4,7 +4,7 @@
 use Prim.Native.Nat.{ℕ, _<_, _≤_}
 use mathlib.Core.Path.{_≡_}
 use mathlib.Core.Logic.{_⊎_}
-use mathlib.Core.Bool.{Bool, true, false}
+use mathlib.Core.Bool.{true, false}
 use mathlib.Core.List.{List, [], _∷_}
 use lib.ListN.{length, getD}
 use Rattle.laws.specs.Outcome.{Outcome}
@@ -15,7 +15,6 @@ use Rattle.banks.specs.Facts.{Member}
 use Rattle.banks.specs.declared.record.Record.{Record}
 use Rattle.hearing.specs.declared.rooms.Who.{Who}
 use Rattle.hearing.specs.declared.rooms.Heard.{Heard}
-use Rattle.unit.specs.State.{poweredOn}
 use Rattle.unit.specs.Due.{dueOf}
 use Rattle.unit.specs.Step.{startNumber, startOf, powerNumber, powerOnOf, powerOf, stepNumber, stepOf}
 use Rattle.unit.specs.declared.state.State.{State}
