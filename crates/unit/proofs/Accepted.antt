@@ -1,14 +1,14 @@
 -- Start, power-on and frame step, accepted or not: what they leave of the store, and that 7 to 12 hold again.
 -- Assumes nothing.
 use Prim.Native.Nat.{ℕ, zero, suc, _+_, _<_}
-use mathlib.Core.Path.{_≡_, refl, sym, _∙_}
+use mathlib.Core.Path.{_≡_, refl, sym, ap, _∙_}
 use mathlib.Core.Logic.{_⊎_, inl}
 use mathlib.Core.Bool.{Bool, true}
 use mathlib.Core.List.{List, [], _∷_, _++_}
 use native.Mathlib.Omega.{arith}
 use borrow.Author.Tests.{eqb-true, ne-eqb, eq-eqb, lt-ltb}
 use lib.Dec.{ltb}
-use lib.ListN.{length}
+use lib.ListN.{length, getD}
 use Rattle.laws.specs.Lists.{every}
 use Rattle.laws.specs.Numbers.{Test, test, firstFailing, numbered}
 use Rattle.laws.specs.Outcome.{Outcome}
@@ -16,12 +16,14 @@ use Rattle.laws.proofs.Tests.{if-eq}
 use Rattle.laws.proofs.Sides.{and-left, and-right}
 use Rattle.laws.proofs.Numbers.{none-exactly-if}
 use Rattle.laws.proofs.Joined.{joined-none, joined-some}
-use Rattle.banks.specs.Map.{recordsOf}
-use Rattle.banks.specs.Rules.{checkTests, checkNumber}
-use Rattle.banks.specs.Lookup.{valueOf}
+use Rattle.laws.proofs.PartBytes.{first-byte}
+use Rattle.banks.specs.Map.{recordsOf, mapped}
+use Rattle.banks.specs.Rules.{isLock, checkTests, checkNumber}
+use Rattle.banks.specs.Lookup.{valueOf, byteAt, lockByte}
 use Rattle.banks.specs.Facts.{Member, Stands}
 use Rattle.banks.specs.declared.record.Record.{Record}
 use Rattle.banks.proofs.Standing.{check-stands}
+use Rattle.banks.proofs.HeadsAndLocks.{has-lock}
 use Rattle.hearing.specs.Meaning.{meaningOf, closes}
 use Rattle.hearing.specs.declared.rooms.Who.{Who}
 use Rattle.hearing.specs.declared.rooms.Heard.{Heard}
@@ -41,7 +43,7 @@ use Rattle.unit.specs.declared.state.Stepped.{Stepped}
 use Rattle.unit.specs.declared.due.Due.{Due}
 use Rattle.unit.specs.declared.due.Due.the-variants.{Nothing, Waits, Opens, Resets, Becomes, Loads, Answers}
 use Rattle.unit.specs.declared.due.Due.the-variants.{Writes, Reads}
-use Rattle.unit.proofs.Numbers.{calls-accepted}
+use Rattle.unit.proofs.Numbers.{startsBehind, powersBehind, stepsBehind, calls-accepted}
 use Rattle.unit.proofs.Store.{rest-same, stands-after, filled-rest, filled-left, filled-fresh}
 use Rattle.unit.proofs.Rooms.{none-latched-holds, write-rest, write-one}
 use Rattle.unit.proofs.Keeping.{RulesHold, rules-hold, state-holds, shut-holds, heard-staged, frame-keeps}
@@ -82,34 +84,34 @@ module _ (map store : List ℕ) (kept : ℕ) where
       → Stands map store kept × (addressHolds (who .address) ≡ true)
   unfolding startNumber
   start-sound who e =
-      let p = parted (test 6 (addressHolds (who .address)) ∷ []) refl e in
+      let p = parted (startsBehind who) refl e in
       (p .0, and-left (addressHolds (who .address)) true (p .1))
 
   power-sound : (s : State) → powerNumber map store kept s ≡ 0 → Sound map store kept s
   unfolding powerNumber
   power-sound s e =
       let rs = recordsOf map in
-      let p = parted (test 12 (stateHolds rs store s) ∷ []) refl e in
+      let p = parted (powersBehind map store s) refl e in
       record { standing = p .0; rules = rules-hold rs store s (and-left (stateHolds rs store s) true (p .1)) }
 
   step-sound : (s : State) (frame : ℕ) → stepNumber map store kept s frame ≡ 0 → Sound map store kept s
   unfolding stepNumber
   step-sound s frame e =
       let rs = recordsOf map in
-      let p = parted (test 12 (stateHolds rs store s) ∷ test 1 (ltb frame 16777216) ∷ []) refl e in
+      let p = parted (stepsBehind map store s frame) refl e in
       record { standing = p .0; rules = rules-hold rs store s (and-left (stateHolds rs store s) _ (p .1)) }
 
   sound-power : (s : State) → Sound map store kept s → powerNumber map store kept s ≡ 0
   unfolding powerNumber
   sound-power s h =
-      joined (test 12 (stateHolds (recordsOf map) store s) ∷ []) refl (h .standing)
+      joined (powersBehind map store s) refl (h .standing)
       (rw (state-holds (recordsOf map) store s (h .rules)))
 
   sound-step : (s : State) (frame : ℕ) → Sound map store kept s → frame < 16777216
       → stepNumber map store kept s frame ≡ 0
   unfolding stepNumber
   sound-step s frame h l =
-      joined (test 12 (stateHolds (recordsOf map) store s) ∷ test 1 (ltb frame 16777216) ∷ []) refl (h .standing)
+      joined (stepsBehind map store s frame) refl (h .standing)
       (rw (state-holds (recordsOf map) store s (h .rules), lt-ltb frame 16777216 l))
 
 -- ---- the store after a frame
@@ -191,11 +193,29 @@ module _ (map store image : List ℕ) (who : Who) (S : Stands map store (length 
   others-stay r m k =
       filled-left map (length store) (S .in-place) store image refl (S .as-long) PowerOn r m (ne-eqb (r .kind) 2 k)
 
+  lock-powered : (r : Record) → Member r map → isLock r ≡ true → valueOf r (powered .store) ≡ 0xFF ∷ []
+  unfolding fresh
+  lock-powered r m e = ram-fresh r m (search (and-left, and-right, eqb-true)) ∙ rw e
+
+  lock-byte-powered : (bank : ℕ) → 0 < bank → mapped (recordsOf map) bank ≡ true
+      → lockByte (recordsOf map) (powered .store) bank ≡ 0xFF
+  unfolding lockByte byteAt valueOf
+  lock-byte-powered bank h m =
+      let L = has-lock map (S .in-order) (S .banks) bank h m in
+      let r = L .0 in
+      let f = L .1 in
+      let e : isLock (L .0) ≡ true =
+          rw (eq-eqb _ _ (f .its-first), eq-eqb _ _ (f .its-width), eq-eqb _ _ (f .its-kind), eq-eqb _ _ (f .no-lock)) in
+      rw (L .2)
+      (sym (first-byte (r .offset) (r .width) (powered .store) (rw (f .its-width) (omega arith)))
+      ∙ ap (λ (v : List ℕ). getD v 0 0) (lock-powered r (f .member) e))
+
   powered-store : StorePowered map store image (powered .store)
   unfolding fresh
   powered-store =
       record {
-        locks = λ r m e. ram-fresh r m (search (and-left, and-right, eqb-true)) ∙ rw e;
+        locks = lock-powered;
+        lock-bytes = lock-byte-powered;
         ram = λ r m e k. ram-fresh r m k ∙ rw e;
         others = others-stay;
         under-none = powered-rest .under-none;

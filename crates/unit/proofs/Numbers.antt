@@ -3,23 +3,29 @@
 use Prim.Native.Nat.{ℕ, _<_}
 use mathlib.Core.Path.{_≡_, refl, sym, _∙_}
 use mathlib.Core.Bool.{true}
-use mathlib.Core.List.{List}
+use mathlib.Core.List.{List, [], _∷_, _++_}
 use native.Mathlib.Omega.{arith}
 use borrow.Author.Tests.{eq-eqb, ne-eqb}
+use lib.Dec.{ltb}
 use lib.ListN.{length}
-use Rattle.laws.specs.Numbers.{Test, firstFailing, numbered}
+use Rattle.laws.specs.Numbers.{Test, test, firstFailing, numbered}
 use Rattle.laws.specs.Outcome.{Outcome}
 use Rattle.laws.proofs.Numbers.{exactly-if, none-exactly-if}
+use Rattle.laws.proofs.Joined.{joined-none, joined-some}
 use Rattle.laws.proofs.Settled.{settles, settles-both}
 use Rattle.laws.proofs.Tests.{if-eq}
 use Rattle.banks.specs.Map.{recordsOf}
+use Rattle.banks.specs.Rules.{checkTests, checkNumber}
 use Rattle.banks.specs.declared.record.Record.{Record}
 use Rattle.hearing.specs.declared.rooms.Heard.{Heard}
+use Rattle.hearing.specs.declared.rooms.Who.{Who}
 use Rattle.unit.specs.Step.{quiet, answering, refusing, written, readBy, done, frameOf, powerOf, unless}
 use Rattle.unit.specs.Step.{startTests, startNumber, startOf, powerTests, powerNumber, powerOnOf}
 use Rattle.unit.specs.Step.{stepTests, stepNumber, stepOf}
 use Rattle.unit.specs.State.{zeroState}
+use Rattle.unit.specs.Rules.{addressHolds, stateHolds}
 use Rattle.unit.specs.Due.{dueOf}
+use Rattle.unit.specs.Promises.{Tests-in-order}
 use Rattle.unit.specs.Promises.{GivenBy, numberOf, Refuses, Calls-settled, Calls-numbered, Calls-refused}
 use Rattle.unit.specs.Promises.{Calls-accepted}
 use Rattle.unit.specs.declared.state.State.{State}
@@ -96,6 +102,39 @@ calls-numbered map store image =
       step-replies = λ s heard.
           unless-number s store (frameOf (recordsOf map) store image s heard) _
           (frame-number (recordsOf map) store image s heard);
+    }
+
+-- the tests behind 7 to 11
+abbrev pub startsBehind : Who → List Test
+startsBehind who = test 6 (addressHolds (who .address)) ∷ []
+
+abbrev pub powersBehind : List ℕ → List ℕ → State → List Test
+powersBehind map store s = test 12 (stateHolds (recordsOf map) store s) ∷ []
+
+abbrev pub stepsBehind : List ℕ → List ℕ → State → ℕ → List Test
+stepsBehind map store s frame = test 12 (stateHolds (recordsOf map) store s) ∷ test 1 (ltb frame 16777216) ∷ []
+
+-- 7 to 11 give their number, or the tests behind them do
+module _ (map store : List ℕ) (kept : ℕ) (us : List Test) where
+  checks-first : 0 < checkNumber map store kept
+      → firstFailing (checkTests map store kept ++ us) ≡ checkNumber map store kept
+  unfolding checkNumber
+  checks-first h = joined-some (checkTests map store kept) us (checkNumber map store kept) h refl
+
+  checks-passed : checkNumber map store kept ≡ 0 → firstFailing (checkTests map store kept ++ us) ≡ firstFailing us
+  unfolding checkNumber
+  checks-passed e = joined-none (checkTests map store kept) us refl e
+
+pub tests-in-order : Tests-in-order
+unfolding startNumber powerNumber stepNumber firstFailing
+tests-in-order map store kept =
+    record {
+      start-first = λ who. checks-first map store kept (startsBehind who);
+      power-first = λ s. checks-first map store kept (powersBehind map store s);
+      step-first = λ s frame. checks-first map store kept (stepsBehind map store s frame);
+      start-then = λ who. checks-passed map store kept (startsBehind who);
+      power-then = λ s. checks-passed map store kept (powersBehind map store s);
+      step-then = λ s frame. checks-passed map store kept (stepsBehind map store s frame);
     }
 
 pub calls-refused : Calls-refused

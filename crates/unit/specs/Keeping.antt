@@ -8,9 +8,9 @@ use mathlib.Core.Bool.{true, false}
 use mathlib.Core.List.{List, [], _∷_}
 use lib.ListN.{length, getD}
 use Rattle.laws.specs.Outcome.{Outcome}
-use Rattle.banks.specs.Map.{recordsOf, writable, placesEnd}
+use Rattle.banks.specs.Map.{recordsOf, writable, placesEnd, mapped}
 use Rattle.banks.specs.Rules.{isLock}
-use Rattle.banks.specs.Lookup.{valueOf}
+use Rattle.banks.specs.Lookup.{valueOf, lockByte}
 use Rattle.banks.specs.Facts.{Member}
 use Rattle.banks.specs.declared.record.Record.{Record}
 use Rattle.hearing.specs.declared.rooms.Who.{Who}
@@ -68,8 +68,10 @@ pub record StatePowered (who : Who) (s : State) : Type 0 where
   pub none-latched : s .latch .held ≡ false
 
 pub record StorePowered (map store image after : List ℕ) : Type 0 where
-  -- lock bytes 0xFF
+  -- lock bytes 0xFF: of each such record, and of each mapped bank from 1 on
   pub locks : (r : Record) → Member r map → isLock r ≡ true → valueOf r after ≡ 0xFF ∷ []
+  pub lock-bytes : (bank : ℕ) → 0 < bank → mapped (recordsOf map) bank ≡ true
+      → lockByte (recordsOf map) after bank ≡ 0xFF
   -- other RAM-RW values from the reset image
   pub ram : (r : Record) → Member r map → isLock r ≡ false → r .kind ≡ 2 → valueOf r after ≡ valueOf r image
   -- kinds 0, 1, 3, 4 stay, and so do bytes under no record

@@ -6,15 +6,19 @@ use Prim.Native.Nat.{ℕ, _<_}
 use mathlib.Core.Path.{_≡_}
 use mathlib.Core.Bool.{true, false}
 use mathlib.Core.List.{List}
+use lib.Dec.{ltb}
 use lib.ListN.{length}
+use Rattle.laws.specs.Choice.{if_then_else_}
 use Rattle.laws.specs.Lists.{every}
 use Rattle.laws.specs.Numbers.{Test, Given}
 use Rattle.laws.specs.Outcome.{Outcome, Gives}
 use Rattle.laws.specs.Settled.{Settles}
 use Rattle.banks.specs.Map.{recordsOf}
+use Rattle.banks.specs.Rules.{checkNumber}
 use Rattle.hearing.specs.declared.rooms.Who.{Who}
 use Rattle.hearing.specs.declared.rooms.Heard.{Heard}
 use Rattle.unit.specs.State.{zeroState}
+use Rattle.unit.specs.Rules.{addressHolds, stateHolds}
 use Rattle.unit.specs.Step.{startTests, startNumber, startOf, powerTests, powerNumber, powerOnOf, powerOf}
 use Rattle.unit.specs.Step.{stepTests, stepNumber, stepOf, frameOf}
 use Rattle.unit.specs.declared.state.State.{State}
@@ -55,6 +59,22 @@ pub record Numbered (map store image : List ℕ) : Type 0 where
   pub step-replies : (s : State) (heard : Heard)
       → numberOf (stepOf map store image s heard) ≡ stepNumber map store (length image) s (heard .frame)
 
+-- the order of the tests: in each call 7 to 11 come first; then 6 at a start, 12 at a later power-on, 12 and 1 at a step
+pub record InOrder (map store : List ℕ) (kept : ℕ) : Type 0 where
+  pub start-first : (who : Who) → 0 < checkNumber map store kept
+      → startNumber map store kept who ≡ checkNumber map store kept
+  pub power-first : (s : State) → 0 < checkNumber map store kept
+      → powerNumber map store kept s ≡ checkNumber map store kept
+  pub step-first : (s : State) (frame : ℕ) → 0 < checkNumber map store kept
+      → stepNumber map store kept s frame ≡ checkNumber map store kept
+  pub start-then : (who : Who) → checkNumber map store kept ≡ 0
+      → startNumber map store kept who ≡ (if addressHolds (who .address) then 0 else 6)
+  pub power-then : (s : State) → checkNumber map store kept ≡ 0
+      → powerNumber map store kept s ≡ (if stateHolds (recordsOf map) store s then 0 else 12)
+  pub step-then : (s : State) (frame : ℕ) → checkNumber map store kept ≡ 0
+      → stepNumber map store kept s frame
+      ≡ (if stateHolds (recordsOf map) store s then (if ltb frame 16777216 then 0 else 1) else 12)
+
 -- a refusal returns the number, and no answer; state and store stay, byte for byte
 pub record Refuses (o : Outcome Stepped) (number : ℕ) (s : State) (store : List ℕ) : Type 0 where
   pub returns : numberOf o ≡ number
@@ -86,6 +106,9 @@ Calls-settled = (map store image : List ℕ) → Settled map store image
 
 abbrev pub Calls-numbered : Type 0
 Calls-numbered = (map store image : List ℕ) → Numbered map store image
+
+abbrev pub Tests-in-order : Type 0
+Tests-in-order = (map store : List ℕ) (kept : ℕ) → InOrder map store kept
 
 abbrev pub Calls-refused : Type 0
 Calls-refused = (map store image : List ℕ) (n : ℕ) → 0 < n → Refused map store image n
