@@ -33,43 +33,43 @@ use Rattle.unit.specs.Run.{inputOf, outputOf, runOf}
 use Rattle.unit.specs.Bench.{Line, says, Hold, p11, p12, late, overrun, SheetHolds}
 
 -- what each floor computes with: to unfold one of these is to unfold all on its line
-reading : Unit {0}
+unfoldable pub reading : Unit {0}
 unfolding bits kindOf targetAt readOf commandOf addressOf targetOf eventOf schemeOf otherOf fieldOf powerEventOf
 reading = tt
 
-checking : Unit {0}
+unfoldable pub checking : Unit {0}
 unfolding sizeHolds lengthsHold placesHold bankHolds banksHold headByteHolds headHolds headBytesHold
 checking = tt
 
-looking : Unit {0}
+unfoldable pub looking : Unit {0}
 unfolding firstFailing part put recordAt recordsOf holder ifFirst beginner valueOf putValue byteAt lockByte
 looking = tt
 
-meaning : Unit {0}
+unfoldable pub meaning : Unit {0}
 unfolding deviceCommand firstSpecial specialCommand meaningOf passed inTime completes
 meaning = tt
 
-storing : Unit {0}
+unfoldable pub storing : Unit {0}
 unfolding unlocked taken bytesWith takeByte writeFound writeAt writeOf latchFrom showByte readAt shownOf
 storing = tt
 
-filling : Unit {0}
+unfoldable pub filling : Unit {0}
 unfolding selects chosen fresh filledOf
 filling = tt
 
-keeping : Unit {0}
+unfoldable pub keeping : Unit {0}
 unfolding stagedIn stagedHolds latchedIn latchHolds zeroFrom waitingHolds doorHolds stateHolds
 keeping = tt
 
-rooms : Unit {0}
+unfoldable pub rooms : Unit {0}
 unfolding withWho withRegisters withWaiting withDoor withLatch poweredOn dtrOf withDtr groupByte groupWord
 rooms = tt
 
-acting : Unit {0}
+unfoldable pub acting : Unit {0}
 unfolding shortDue writeDue readDue onceDue pairDue dueBy dueOf hearing raised written readBy done frameOf powerOf
 acting = tt
 
-calling : Unit {0}
+unfoldable pub calling : Unit {0}
 unfolding quiet answering refusing stepNumber powerNumber startNumber stepOf powerOnOf startOf inputOf outputOf runOf
 calling = tt
 

@@ -1,7 +1,7 @@
 -- What a frame leaves alone: a foreign one, one between two halves, and each listed command.
 -- Paper 01, "Commands obeyed". Proved in proofs/Foreign.antt and proofs/Leaving.antt.
 -- Assumes nothing.
-use Prim.Native.Nat.{ℕ}
+use Prim.Native.Nat.{ℕ, _+_}
 use mathlib.Core.Path.{_≡_}
 use mathlib.Core.Bool.{Bool, true, false}
 use mathlib.Core.List.{List}
@@ -80,10 +80,12 @@ WhoStays s o = o .answer .state .who ≡ s .who
 abbrev pub RegistersStay : State → Outcome Stepped → Type 0
 RegistersStay s o = o .answer .state .registers ≡ s .registers
 
--- DTR0 may rise, DTR1 and DTR2 stay
-abbrev pub OnlyDtr0 : State → Outcome Stepped → Type 0
-OnlyDtr0 s o =
-    (o .answer .state .registers .dtr1 ≡ s .registers .dtr1) × (o .answer .state .registers .dtr2 ≡ s .registers .dtr2)
+-- DTR0 rises by one from the location unless 0xFF; DTR1 and DTR2 stay
+pub record Dtr0Rises (location : ℕ) (s : State) (o : Outcome Stepped) : Type 0 where
+  pub rises : (location ≡ 0xFF → ⊥) → o .answer .state .registers .dtr0 ≡ location + 1
+  pub stops : location ≡ 0xFF → o .answer .state .registers .dtr0 ≡ 0xFF
+  pub dtr1 : o .answer .state .registers .dtr1 ≡ s .registers .dtr1
+  pub dtr2 : o .answer .state .registers .dtr2 ≡ s .registers .dtr2
 
 abbrev pub NoneWaits : Outcome Stepped → Type 0
 NoneWaits o = o .answer .state .waiting ≡ noneWaits
@@ -134,10 +136,10 @@ Leaves s store heard closing o (Answers byte) =
     WhoStays s o × RegistersStay s o × NoneWaits o × DoorBy closing s o × LatchStays s o × StoreStays store o
 -- DTR0, staging, the store, the answer; writes don't touch the latch, nor close
 Leaves s store heard closing o (Writes bank location byte replying) =
-    WhoStays s o × OnlyDtr0 s o × NoneWaits o × (o .answer .state .door .enabled ≡ s .door .enabled) × LatchStays s o
+    WhoStays s o × Dtr0Rises location s o × NoneWaits o × (o .answer .state .door .enabled ≡ s .door .enabled) × LatchStays s o
 -- DTR0, the latch, the answer, and the door by closing
 Leaves s store heard closing o (Reads bank location) =
-    WhoStays s o × OnlyDtr0 s o × NoneWaits o × DoorShut o × StoreStays store o
+    WhoStays s o × Dtr0Rises location s o × NoneWaits o × DoorShut o × StoreStays store o
 
 abbrev pub Frames-leave : Type 0
 Frames-leave = (rs : List Record) (store image : List ℕ) (s : State) (heard : Heard) (due : Due)
