@@ -7,10 +7,9 @@ use mathlib.Core.Bool.{Bool, true}
 use mathlib.Core.List.{List, [], _∷_, _++_}
 use native.Mathlib.Omega.{arith}
 use borrow.Author.Tests.{eqb-true, ne-eqb, eq-eqb, lt-ltb}
-use lib.Dec.{ltb}
 use lib.ListN.{length, getD}
 use Rattle.laws.specs.Lists.{every}
-use Rattle.laws.specs.Numbers.{Test, test, firstFailing, numbered}
+use Rattle.laws.specs.Numbers.{Test, firstFailing, numbered}
 use Rattle.laws.specs.Outcome.{Outcome}
 use Rattle.laws.proofs.Tests.{if-eq}
 use Rattle.laws.proofs.Sides.{and-left, and-right}
@@ -205,7 +204,7 @@ module _ (map store image : List ℕ) (who : Who) (S : Stands map store (length 
       let r = L .0 in
       let f = L .1 in
       let e : isLock (L .0) ≡ true =
-          rw (eq-eqb _ _ (f .its-first), eq-eqb _ _ (f .its-width), eq-eqb _ _ (f .its-kind), eq-eqb _ _ (f .no-lock)) in
+      rw (eq-eqb _ _ (f .its-first), eq-eqb _ _ (f .its-width), eq-eqb _ _ (f .its-kind), eq-eqb _ _ (f .no-lock)) in
       rw (L .2)
       (sym (first-byte (r .offset) (r .width) (powered .store) (rw (f .its-width) (omega arith)))
       ∙ ap (λ (v : List ℕ). getD v 0 0) (lock-powered r (f .member) e))

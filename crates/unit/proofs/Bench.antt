@@ -75,11 +75,16 @@ calling = tt
 
 runs-hold : Hold (p11 ∷ p12 ∷ late ∷ overrun ∷ [])
 unfolding reading checking looking meaning storing filling keeping rooms acting calling
-runs-hold =
-    (record { starts = refl; writes = refl; leaves = refl },
-    (record { starts = refl; writes = refl; leaves = refl },
-    ((record { starts = refl; writes = refl; leaves = refl }, refl, refl),
-    ((refl, refl), tt))))
+runs-hold = (
+  record { starts = refl; writes = refl; leaves = refl },
+  (
+    record { starts = refl; writes = refl; leaves = refl },
+    (
+      (record { starts = refl; writes = refl; leaves = refl }, refl, refl),
+      ((refl, refl), tt),
+    ),
+  ),
+)
 
 -- the frames' lines first
 both-hold : (cases : List Case) (lines : List Line) → AllHold cases → Hold lines → Hold (map says cases ++ lines)

@@ -19,7 +19,7 @@ use Rattle.laws.proofs.Sides.{and-left, and-right}
 use Rattle.laws.proofs.Sides.{chosen as by-side}
 use Rattle.banks.specs.Map.{recordsOf, locationsEnd, placesEnd}
 use Rattle.banks.specs.Rules.{placed}
-use Rattle.banks.specs.Lookup.{holder, ifFirst, beginner, valueOf}
+use Rattle.banks.specs.Lookup.{holder, beginner, valueOf}
 use Rattle.banks.specs.Facts.{Member, Within}
 use Rattle.banks.specs.declared.record.Record.{Record}
 use Rattle.banks.proofs.Members.{placed-ordered, member-fields, member-inside}
@@ -49,7 +49,7 @@ zero-padded : (value : List ℕ) (w : ℕ) → length value ≡ w → w ≤ 8 �
 unfolding zeroFrom
 zero-padded value w l h =
     let e : length (value ++ replicate (8 - length value) 0) ≡ 8 =
-        simp (length-append, length-replicate) (omega arith) in
+    simp (length-append, length-replicate) (omega arith) in
     rw (eq-eqb _ 8 e, drop-at value (replicate (8 - length value) 0) w l) (zeros-replicate (8 - length value))
 
 pub none-latched-holds : (rs : List Record) → latchHolds rs noneLatched ≡ true
@@ -177,7 +177,7 @@ module _ (map : List ℕ) (n : ℕ) (p : placed map n ≡ true) where
         let i : placesEnd r ≤ n = member-inside map n p r m in
         let f : r .width ≤ 8 = member-fields map o r m .most-width in
         let v : length (part (r .offset) (r .width) store) ≡ r .width =
-            length-part (r .offset) (r .width) store (omega arith) in
+        length-part (r .offset) (r .width) store (omega arith) in
         rw (first-found map o r m .1, le-leb 2 (r .width) w)
         (zero-padded (part (r .offset) (r .width) store) (r .width) v f)
 

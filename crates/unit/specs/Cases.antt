@@ -6,8 +6,6 @@ use mathlib.Core.Path.{_≡_}
 use mathlib.Core.Bool.{Bool, true, false}
 use mathlib.Core.List.{List, [], _∷_, map}
 use lib.ListN.{length}
-use Rattle.memory.specs.declared.staged.Staged.{Staged}
-use Rattle.memory.specs.declared.latched.Latch.{Latch}
 use Rattle.unit.specs.State.{withWho, withWaiting, withDoor, withLatch, poweredOn}
 use Rattle.unit.specs.Step.{startNumber, powerNumber, stepNumber}
 use Rattle.unit.specs.Bench.{benchMap, benchStore, benchImage, benchWho}
