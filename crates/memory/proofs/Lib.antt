@@ -3,4 +3,5 @@ pub mod Reaching
 pub mod Writes
 pub mod Run
 pub mod StagedRoom
+pub mod Changes
 pub mod Filling
