@@ -52,15 +52,16 @@ module _ (rs : List Record) (store : List ℕ) (g : Staged) (e : stagedHolds rs 
   staged-said n = go (beginner rs (g .bank) (g .first)) refl (rw (ne-eqb (g .count) 0 n) at e)
     where
       go : (f : Found) → beginner rs (g .bank) (g .first) ≡ f → stagedIn rs store g f ≡ true → (r : Record) × StagedOf rs store g r
-      go (At r) b t =
-          (r,
-            record {
-              begins = b;
-              writes = search (and-left, and-right) depth 6;
-              opens = search (and-left, and-right) depth 6;
-              not-all = search (and-left, and-right, ltb-true) depth 6;
-              zero = search (and-left, and-right) depth 6;
-            })
+      go (At r) b t = (
+        r,
+        record {
+          begins = b;
+          writes = search (and-left, and-right) depth 6;
+          opens = search (and-left, and-right) depth 6;
+          not-all = search (and-left, and-right, ltb-true) depth 6;
+          zero = search (and-left, and-right) depth 6;
+        },
+      )
       go Nothing b t = let z : _≡_ {A = ℕ} 0 1 = cc in absurd (omega arith)
 
   pub staged-room : length (g .bytes) ≡ 8
@@ -111,12 +112,14 @@ module _ (map store : List ℕ) (p : placed map (length store) ≡ true) (g : St
   unfolding stagedHolds stagedIn
   stages-holds n =
       let w = within in
-      rw (ne-eqb (k + 1) 0 (omega arith),
-      first-found map (placed-ordered map (length store) p) r (w .member) .1,
-      lt-ltb (k + 1) (r .width) (omega arith),
-      met .writes,
-      le-leb 2 (r .width) (omega arith),
-      met .opens) bytes-zero
+      rw (
+        ne-eqb (k + 1) 0 (omega arith),
+        first-found map (placed-ordered map (length store) p) r (w .member) .1,
+        lt-ltb (k + 1) (r .width) (omega arith),
+        met .writes,
+        le-leb 2 (r .width) (omega arith),
+        met .opens,
+      ) bytes-zero
 
   takes : writeOf (recordsOf map) store g bank location byte
       ≡ (if eqb (location + 1) (locationsEnd r) then leaves (wrote true noneStaged) (putValue r (bytesTo g r location byte) store)
@@ -127,7 +130,7 @@ module _ (map store : List ℕ) (p : placed map (length store) ≡ true) (g : St
       (λ q.
       let v : k + 1 ≡ r .width = omega arith in
       let all : take (r .width) (bytesWith g k byte) ≡ bytesTo g r location byte =
-          ap (take (r .width)) bytes-are ∙ take-at (bytesTo g r location byte) _ (r .width) (bytes-length ∙ v) in
+      ap (take (r .width)) bytes-are ∙ take-at (bytesTo g r location byte) _ (r .width) (bytes-length ∙ v) in
       write-last (recordsOf map) store g bank location byte r t v
       ∙ ap (λ (l : List ℕ). leaves (wrote true noneStaged) (putValue r l store)) all)
       (λ n.
@@ -149,6 +152,6 @@ write-value map store p g e bank location byte r t =
     let v = bytesTo g r location byte in
     let n = bytes-length map store p g e bank location byte r (t .takes) in
     let o : writeOf (recordsOf map) store g bank location byte ≡ leaves (wrote true noneStaged) (putValue r v store) =
-        takes map store p g e bank location byte r (t .takes) ∙ rw (eq-eqb (location + 1) (locationsEnd r) (t .last)) in
+    takes map store p g e bank location byte r (t .takes) ∙ rw (eq-eqb (location + 1) (locationsEnd r) (t .last)) in
     ap (λ (o : Outcome Wrote). valueOf r (o .store)) o
     ∙ value-put map store v r p (w .member) (n ∙ omega (arith, t .last)) .there

@@ -66,7 +66,7 @@ set-next bytes i b h e =
     let n : length (take i bytes ++ b ∷ []) ≡ length (take i bytes) + 1 = length-append (take i bytes) (b ∷ []) in
     let d : length (drop (i + 1) bytes) ≡ 8 - length (take i bytes ++ b ∷ []) = length-drop (i + 1) bytes ∙ omega arith in
     let z : drop (i + 1) bytes ≡ replicate (8 - length (take i bytes ++ b ∷ [])) 0 =
-        unused (i + 1) bytes (zero-rest bytes i h e) ∙ ap (λ (k : ℕ). replicate k 0) d in
+    unused (i + 1) bytes (zero-rest bytes i h e) ∙ ap (λ (k : ℕ). replicate k 0) d in
     set-split bytes i b (omega arith)
     ∙ ap (λ (k : ℕ). take i bytes ++ b ∷ drop k bytes) (sym (add-one i))
     ∙ ap (λ (l : List ℕ). take i bytes ++ b ∷ l) z
