@@ -10,7 +10,6 @@ pub mod Choosing
 pub mod Numbers
 pub mod Settled
 pub mod Counts
-pub mod Powers
 pub mod Sides
 pub mod Members
 pub mod Joined

@@ -59,9 +59,9 @@ raised s location =
 unfoldable pub written : State → ℕ → ℕ → Bool → Outcome Wrote → Outcome Stepped
 written s location byte replying o =
     leaves
-      (answering (withDoor (raised s location) (record { enabled = s .door .enabled; staged = o .answer .staged }))
-        (o .answer .taken && replying) byte)
-      (o .store)
+    (answering (withDoor (raised s location) (record { enabled = s .door .enabled; staged = o .answer .staged }))
+    (o .answer .taken && replying) byte)
+    (o .store)
 
 -- answer the byte, or none if the location is unmapped; DTR0 rises unless 0xFF
 unfoldable pub readBy : State → ℕ → Shown → Stepped

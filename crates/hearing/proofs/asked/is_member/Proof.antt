@@ -1,7 +1,8 @@
 -- `hearing::asked::is_member` meets its contract.
 -- Assumes nothing.
 use borrow.Author.Needs.{needs}
-use Rattle.laws.proofs.Powers.{none-above}
+use native.Mathlib.Nat.{div-eq-of-lt, lt-of-lt-of-le}
+use lib.Pow.{pow-mono}
 use Rattle.hearing.proofs.asked.is_member.Statement.{statement}
 use Rattle.hearing.proofs.asked.is_member.Tie as tie
 
@@ -11,4 +12,4 @@ is-member-spec =
     (tie.spec
     (λ c. search needs)
     (λ c. search needs)
-    (λ c. rw (none-above 32 _ _ (c .before .fits .groups .fits) (c .if1 .left))))
+    (λ c. rw (div-eq-of-lt (lt-of-lt-of-le (c .before .fits .groups .fits) (pow-mono (c .if1 .left))))))

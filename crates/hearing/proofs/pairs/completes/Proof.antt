@@ -1,11 +1,9 @@
 -- `hearing::pairs::completes` meets its contract; the wrapped difference is the time that has passed.
 -- Assumes nothing.
 use borrow.Author.Needs.{needs}
-use mathlib.Core.Path.{_≡_, ap}
-use mathlib.Core.Bool.{_&&_}
-use Prim.Native.Nat.{ℕ, _+_, _-_, _%_, _^_}
+use mathlib.Core.Path.{_≡_}
+use Prim.Native.Nat.{_+_, _-_, _%_, _^_}
 use native.Mathlib.Omega.{arith}
-use lib.Dec.{leb, eqb}
 use Rattle.hearing.specs.Pairs.{passed, inTime, completes}
 use Rattle.hearing.proofs.pairs.completes.Statement.{statement}
 use Rattle.hearing.proofs.pairs.completes.Tie as tie
@@ -17,7 +15,7 @@ returns c =
     let heard = c .before .before .before .before .args .heard in
     let told = c .before .before .before .wrapping-sub-u32 in
     let e : told .result ≡ (heard .clock + 2 ^ 32 - waiting .clock) % 2 ^ 32 = omega arith in
-    ap (λ (n : ℕ). waiting .held && (eqb (waiting .frame) (heard .frame) && leb n 100)) e
+    rw e
 
 pub completes-spec : {M : Type 1} → statement M
 completes-spec = tie.close (tie.spec (λ c κs. search needs) returns)
