@@ -5,7 +5,6 @@ pub mod Table
 pub mod Items
 pub mod Parts
 pub mod Copies
-pub mod Numbered
 pub mod Choosing
 pub mod Numbers
 pub mod Settled
