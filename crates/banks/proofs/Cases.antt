@@ -4,7 +4,8 @@ use mathlib.Core.Path.{refl}
 use Rattle.laws.specs.Parts.{part}
 use Rattle.laws.specs.Numbers.{firstFailing}
 use Rattle.banks.specs.Map.{recordAt, recordsOf}
-use Rattle.banks.specs.Rules.{sizeHolds, lengthsHold, placesHold, bankHolds, banksHold, headByteHolds, headHolds, headBytesHold, checkNumber}
+use Rattle.banks.specs.Rules.{sizeHolds, lengthsHold, placesHold, bankHolds, banksHold, headByteHolds}
+use Rattle.banks.specs.Rules.{headHolds, headBytesHold, checkNumber}
 use Rattle.banks.specs.Lookup.{holder, ifFirst, beginner}
 use Rattle.banks.specs.Look.{lookNumber, lookOf, lookBytes}
 use Rattle.banks.specs.Cases.{CheckCases, LookCases}

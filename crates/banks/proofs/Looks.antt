@@ -4,17 +4,17 @@ use mathlib.Core.Path.{_≡_, refl, ap, sym, _∙_}
 use mathlib.Core.List.{List, [], _∷_}
 use Prim.Native.Nat.{ℕ, zero, suc, _+_, _≤_, _<_}
 use native.Mathlib.Omega.{arith}
-use borrow.Author.Tests.{eq-eqb, ne-eqb}
+use borrow.Author.Tests.{ne-eqb}
 use lib.Dec.{eqb}
 use lib.ListN.{length}
 use Rattle.laws.specs.Choice.{if_then_else_}
-use Rattle.laws.specs.Numbers.{Test, test, firstFailing}
+use Rattle.laws.specs.Numbers.{test, firstFailing}
 use Rattle.laws.specs.Parts.{part}
 use Rattle.laws.proofs.Numbers.{exactly-if}
 use Rattle.laws.proofs.Parts.{length-part}
 use Rattle.laws.proofs.Settled.{settles}
 use Rattle.laws.proofs.Joined.{joined-none, joined-some}
-use Rattle.banks.specs.Map.{recordsOf, placesEnd}
+use Rattle.banks.specs.Map.{recordsOf}
 use Rattle.banks.specs.Rules.{checkTests, checkNumber}
 use Rattle.banks.specs.Lookup.{beginner, valueOf}
 use Rattle.banks.specs.Look.{isFound, lookTests, lookNumber, refusedLook, placeOf, lookOf, lookBytes}
@@ -28,7 +28,8 @@ use Rattle.banks.proofs.Locations.{holds-is, holder-at, holder-within, 
 use Rattle.banks.proofs.Standing.{stands}
 
 -- a number and a place, as one
-placed-or-14 : (f : Found) (n : ℕ) → n ≡ (if isFound f then 0 else 14) → (if eqb n 0 then placeOf f else refusedLook n) ≡ placeOf f
+placed-or-14 : (f : Found) (n : ℕ) → n ≡ (if isFound f then 0 else 14)
+    → (if eqb n 0 then placeOf f else refusedLook n) ≡ placeOf f
 placed-or-14 (At r) n e = rw e
 placed-or-14 Nothing n e = rw e
 
@@ -36,22 +37,28 @@ module _ (map store : List ℕ) (bank location : ℕ) where
   -- 7 to 11 are broken: that number
   refused-number : (n : ℕ) → 0 < n → checkNumber map store (length store) ≡ n → lookNumber map store bank location ≡ n
   unfolding checkNumber lookNumber
-  refused-number n h e = joined-some (checkTests map store (length store)) (test 14 (isFound (beginner (recordsOf map) bank location)) ∷ []) n h e
+  refused-number n h e =
+      joined-some (checkTests map store (length store)) (test 14
+      (isFound (beginner (recordsOf map) bank location)) ∷ []) n h e
 
   -- 7 to 11 hold: 0 or 14
   pub sound-number : checkNumber map store (length store) ≡ 0
       → lookNumber map store bank location ≡ (if isFound (beginner (recordsOf map) bank location) then 0 else 14)
   unfolding checkNumber lookNumber firstFailing
   sound-number e =
-      joined-none (checkTests map store (length store)) (test 14 (isFound (beginner (recordsOf map) bank location)) ∷ []) refl e
+      joined-none (checkTests map store (length store)) (test 14
+      (isFound (beginner (recordsOf map) bank location)) ∷ []) refl e
 
-  pub look-refused : (n : ℕ) → (n ≡ 0 → ⊥) → checkNumber map store (length store) ≡ n → lookOf map store bank location ≡ refusedLook n
+  pub look-refused : (n : ℕ) → (n ≡ 0 → ⊥) → checkNumber map store (length store) ≡ n
+      → lookOf map store bank location ≡ refusedLook n
   unfolding lookOf
   look-refused n h e = rw (refused-number n (omega arith) e, ne-eqb n 0 h)
 
-  pub look-sound : checkNumber map store (length store) ≡ 0 → lookOf map store bank location ≡ placeOf (beginner (recordsOf map) bank location)
+  pub look-sound : checkNumber map store (length store) ≡ 0 → lookOf map store bank location ≡ placeOf
+      (beginner (recordsOf map) bank location)
   unfolding lookOf
-  look-sound e = placed-or-14 (beginner (recordsOf map) bank location) (lookNumber map store bank location) (sound-number e)
+  look-sound e =
+      placed-or-14 (beginner (recordsOf map) bank location) (lookNumber map store bank location) (sound-number e)
 
   pub look-number-is : lookOf map store bank location .number ≡ lookNumber map store bank location
   look-number-is = go (checkNumber map store (length store)) refl
@@ -60,7 +67,8 @@ module _ (map store : List ℕ) (bank location : ℕ) where
       of-found (At r) = refl
       of-found Nothing = refl
 
-      go : (n : ℕ) → checkNumber map store (length store) ≡ n → lookOf map store bank location .number ≡ lookNumber map store bank location
+      go : (n : ℕ) → checkNumber map store (length store) ≡ n
+          → lookOf map store bank location .number ≡ lookNumber map store bank location
       go zero e = rw (look-sound e, sound-number e) (of-found (beginner (recordsOf map) bank location))
       go (suc n) e = rw (look-refused (suc n) (omega arith) e, refused-number (suc n) (omega arith) e)
 
@@ -71,10 +79,12 @@ module _ (map store : List ℕ) (bank location : ℕ) where
       of-found : checkNumber map store (length store) ≡ 0 → (f : Found) → beginner (recordsOf map) bank location ≡ f
           → placeOf f .offset + placeOf f .width ≤ length store
       of-found e (At r) q =
-          holder-within map (length store) bank location (stands map store (length store) e .in-place) r (beginner-at (recordsOf map) bank location r q .0) .inside
+          holder-within map (length store) bank location (stands map store (length store) e .in-place) r
+          (beginner-at (recordsOf map) bank location r q .0) .inside
       of-found e Nothing q = omega arith
 
-      go : (n : ℕ) → checkNumber map store (length store) ≡ n → lookOf map store bank location .offset + lookOf map store bank location .width ≤ length store
+      go : (n : ℕ) → checkNumber map store (length store) ≡ n
+          → lookOf map store bank location .offset + lookOf map store bank location .width ≤ length store
       go zero e = rw (look-sound e) (of-found e (beginner (recordsOf map) bank location) refl)
       go (suc n) e = rw (look-refused (suc n) (omega arith) e) (omega arith)
 
@@ -101,7 +111,8 @@ look-shows map store bank location e = go (beginner (recordsOf map) bank locatio
     go (At r) q =
         let b = beginner-at (recordsOf map) bank location r q in
         let k = holder-at bank location (recordsOf map) r (b .0) in
-        let place : lookOf map store bank location ≡ placeOf (At r) = look-sound map store bank location sound ∙ ap placeOf q in (
+        let place : lookOf map store bank location ≡ placeOf (At r) = look-sound map store bank location sound
+        ∙ ap placeOf q in (
           r,
           record {
             member = k .0;
@@ -111,10 +122,16 @@ look-shows map store bank location e = go (beginner (recordsOf map) bank locatio
             bytes = rw place;
           },
         )
-    go Nothing q = absurd (omega (arith, sym e ∙ sound-number map store bank location sound ∙ ap (λ (f : Found). if isFound f then 0 else 14) q))
+    go Nothing q =
+        absurd (omega (
+          arith,
+          sym e ∙ sound-number map store bank location sound ∙ ap
+              (λ (f : Found). if isFound f then 0 else 14) q,
+        ))
 
 -- a value has at least one byte
-some-byte : (map store : List ℕ) (bank location : ℕ) → lookBytes map store bank location ≡ [] → lookNumber map store bank location ≡ 0 → ⊥
+some-byte : (map store : List ℕ) (bank location : ℕ) → lookBytes map store bank location ≡ []
+    → lookNumber map store bank location ≡ 0 → ⊥
 unfolding valueOf
 some-byte map store bank location b e =
     let x = look-shows map store bank location e in
@@ -124,7 +141,8 @@ some-byte map store bank location b e =
     let n = length-part (x .0 .offset) (x .0 .width) store i in
     omega (arith, ap length (sym (x .1 .bytes) ∙ b))
 
-no-byte : (map store : List ℕ) (bank location : ℕ) → (lookNumber map store bank location ≡ 0 → ⊥) → lookBytes map store bank location ≡ []
+no-byte : (map store : List ℕ) (bank location : ℕ) → (lookNumber map store bank location ≡ 0 → ⊥)
+    → lookBytes map store bank location ≡ []
 unfolding lookOf lookBytes part
 no-byte map store bank location n = rw (ne-eqb (lookNumber map store bank location) 0 n)
 

@@ -1,5 +1,5 @@
--- The look calls: the stored bytes of a value that begins at a given bank and location. Paper 01, "Map, store, reset image"
--- and "Refusal numbers": 7 to 11, then 14; a call without an image takes the store for it.
+-- The look calls: the stored bytes of a value that begins at a given bank and location. Paper 01, "Map, store, reset
+-- image" and "Refusal numbers": 7 to 11, then 14; a call without an image takes the store for it.
 -- Assumes nothing.
 use Prim.Native.Nat.{ℕ}
 use mathlib.Core.Bool.{Bool, true, false}
@@ -12,7 +12,6 @@ use Rattle.laws.specs.Numbers.{Test, test, firstFailing}
 use Rattle.banks.specs.Map.{recordsOf}
 use Rattle.banks.specs.Rules.{checkTests}
 use Rattle.banks.specs.Lookup.{beginner}
-use Rattle.banks.specs.declared.record.Record.{Record}
 use Rattle.banks.specs.declared.holder.Found.{Found}
 use Rattle.banks.specs.declared.holder.Found.the-variants.{At, Nothing}
 use Rattle.banks.specs.declared.looked.Looked.{Looked}

@@ -52,7 +52,10 @@ unfolding addressOf
 address-forth (Address.Short n) f =
     let h : n < 64 = ltb-true n 64 f in
     let b : ℕ = n * 2 + 1 in (
-      simp (bits-is b 7 7 0 0 b (omega arith) (omega arith) (omega arith), bits-is b 6 1 0 n 1 (omega arith) (omega arith) (omega arith)),
+      simp (
+        bits-is b 7 7 0 0 b (omega arith) (omega arith) (omega arith),
+        bits-is b 6 1 0 n 1 (omega arith) (omega arith) (omega arith),
+      ),
       omega arith,
       omega arith,
     )
@@ -96,14 +99,18 @@ unfolding targetOf
 range-forth t first kind named right whole small n f =
     let h : n < 32 = ltb-true n 32 f in
     let e : (first + n) % 32 ≡ n = omega arith in (
-      simp (eqb-true (kindOf (first + n)) kind (at-each (λ n. eqb (kindOf (first + n)) kind) 32 right n h), e) (named n),
+      simp (
+        eqb-true (kindOf (first + n)) kind (at-each (λ n. eqb (kindOf (first + n)) kind) 32 right n h),
+        e,
+      ) (named n),
       omega arith,
     )
 
 pub target-forth : (t : Target) → ltb (targetNumber t) 32 ≡ true → TargetForth t (targetByte t)
 unfolding targetAt kindOf targetOf
 target-forth (Target.InstanceNumber n) f =
-    subst (TargetForth (Target.InstanceNumber n)) (zero-add n) (range-forth Target.InstanceNumber 0x00 1 (λ n. refl) refl refl (lit< tt) n f)
+    subst (TargetForth (Target.InstanceNumber n)) (zero-add n)
+    (range-forth Target.InstanceNumber 0x00 1 (λ n. refl) refl refl (lit< tt) n f)
 target-forth (Target.InstanceGroup n) f = range-forth Target.InstanceGroup 0x80 2 (λ n. refl) refl refl (lit< tt) n f
 target-forth (Target.InstanceType n) f = range-forth Target.InstanceType 0xC0 3 (λ n. refl) refl refl (lit< tt) n f
 target-forth (Target.FeatureAtNumber n) f = range-forth Target.FeatureAtNumber 0x20 4 (λ n. refl) refl refl (lit< tt) n f

@@ -5,7 +5,6 @@ use mathlib.Core.Bool.{Bool, true, false, _||_}
 use Prim.Native.Nat.{ℕ, _+_, _-_, _^_, _/_, _%_, _<_}
 use native.Mathlib.Omega.{arith}
 use lib.Dec.{ltb, eqb}
-use lib.Count.{trailingZeros}
 use borrow.Author.Tests.{lt-ltb, ltb-true, eqb-true}
 use Rattle.laws.specs.Bits.{bits}
 use Rattle.laws.specs.Numbers.{firstFailing}
@@ -13,7 +12,9 @@ use Rattle.laws.proofs.Tests.{if-by, if-eq, both}
 use Rattle.laws.proofs.Trailing.{lowest-set, lowest-clear, lowest-found}
 use Rattle.frames.specs.Values.{schemeAt, fieldValue, writingNumber}
 use Rattle.frames.specs.Write.{schemeLimit, eventFits, messageFits, frameOf, writeOf}
-use Rattle.frames.specs.Compose.{orMissing, sourceFits, shippedOf, orBlank, lowestGroup, firstCarried, secondCarried, eventWith, eventBy, composeOf, powerFits, powerBy, composePowerOf}
+use Rattle.frames.specs.Compose.{orMissing, sourceFits, shippedOf, orBlank, lowestGroup, firstCarried}
+use Rattle.frames.specs.Compose.{secondCarried, eventWith, eventBy, composeOf, powerFits, powerBy}
+use Rattle.frames.specs.Compose.{composePowerOf}
 use Rattle.frames.specs.Promises.{Composes, Carries, FallsBack, ComposesPower, Lowest}
 use Rattle.frames.specs.Refusals.{composerTests, ComposerNumbers, powerTests, PowerNumbers}
 use Rattle.frames.specs.declared.message.Field.{Field}
@@ -50,7 +51,7 @@ blank-below x limit p e = if-eq (Below limit) x 255 (λ _. p) (λ n. go n (ltb x
 
 group-below : (groups : ℕ) → groups < 2 ^ 32 → Below 32 (lowestGroup groups)
 unfolding lowestGroup
-group-below groups h = if-eq (Below 32) groups 0 (λ _. omega arith) (λ n. lowest-found 32 groups (omega arith) h)
+group-below groups h = if-eq (Below 32) groups _ (λ _. omega arith) (λ n. lowest-found 32 groups (omega arith) h)
 
 record InRange (e : Source) : Type 0 where
   sort : e .sort < 32
@@ -104,7 +105,7 @@ event-by-fits e r = go (firstCarried s e) (first-below e r s)
     s = schemeAt (shippedOf (e .scheme))
 
     go : (x : Field) → Below (schemeLimit s) x → messageFits (eventWith x s e) ≡ true
-    go Field.Blank h = event-fits Scheme.TypeNumber _ _ _ (r .sort) (r .number) (r .information)
+    go Field.Blank h = event-fits Scheme.TypeNumber _ _ _ (omega arith) (omega arith) (omega arith)
     go (Field.Holds v) h = event-fits s _ _ _ h (second-below e r s) (r .information)
 
 event-written : (e : Source) → sourceFits e ≡ true → writeOf (eventBy e) ≡ Writing.Frame (frameOf (eventBy e))
@@ -145,7 +146,10 @@ composes-power short groups e =
 pub composer-numbers : ComposerNumbers
 unfolding composeOf firstFailing
 composer-numbers e =
-    if-by (λ w. writingNumber w ≡ firstFailing (composerTests e)) (sourceFits e) (λ f. simp (f, event-written e f)) (λ f. simp f)
+    if-by (λ w. writingNumber w ≡ firstFailing (composerTests e)) (sourceFits e) (λ f. simp (
+      f,
+      event-written e f,
+    )) (λ f. simp f)
 
 pub power-numbers : PowerNumbers
 unfolding composePowerOf firstFailing

@@ -1,7 +1,7 @@
 -- Each number is given exactly if the paper's sentence says so.
 -- Assumes nothing.
-use mathlib.Core.Path.{_≡_, refl, _∙_, sym}
-use mathlib.Core.Bool.{Bool, true, false, not, _&&_, _||_}
+use mathlib.Core.Path.{_≡_, refl, _∙_}
+use mathlib.Core.Bool.{Bool, true, false, not, _&&_}
 use Prim.Native.Nat.{ℕ, _^_, _+_, _*_, _%_, _<_}
 use native.Mathlib.Omega.{arith}
 use lib.Dec.{ltb, eqb, lit≤}
@@ -13,9 +13,13 @@ use Rattle.laws.proofs.Bits.{cut, small}
 use Rattle.laws.proofs.Counts.{at-each}
 use Rattle.frames.specs.Kind.{kindOf}
 use Rattle.frames.specs.Values.{targetAt, readingNumber, writingNumber}
-use Rattle.frames.specs.Read.{specialForm, addressOf, targetOf, aimed, addressed, commandOf, schemeOf, fieldOf, powered, powerOf, otherOf, schemed, eventOf, readOf}
+use Rattle.frames.specs.Read.{specialForm, addressOf, targetOf, aimed, addressed, commandOf, schemeOf, fieldOf}
+use Rattle.frames.specs.Read.{powered, powerOf, otherOf, schemed, eventOf, readOf}
 use Rattle.frames.specs.Write.{writeOf, messageFits}
-use Rattle.frames.specs.Refusals.{isCommand, tooLarge, reservedAddress, reservedAddressByte, reservedInstance, reservedInstanceByte, powerCycle, reservedEvent, notBlank, blankNotZero, readerTests, ReaderNumbers, writerTests, WriterNumbers, Reserved14, Reserved59}
+use Rattle.frames.specs.Refusals.{reservedAddress, reservedInstance}
+use Rattle.frames.specs.Refusals.{notBlank}
+use Rattle.frames.specs.Refusals.{readerTests, ReaderNumbers, writerTests, WriterNumbers, Reserved14}
+use Rattle.frames.specs.Refusals.{Reserved59}
 use Rattle.frames.specs.declared.message.Address.{Address}
 use Rattle.frames.specs.declared.message.Addressed.{Addressed}
 use Rattle.frames.specs.declared.message.Fielded.{Fielded}
@@ -56,7 +60,7 @@ abbrev Says : ℕ → Reading → Type 0
 Says f r = readingNumber r ≡ firstFailing (readerTests f)
 
 command-says : (f : ℕ) → f < 2 ^ 24 → bit f 16 ≡ 1 → Says f (commandOf f)
-unfolding commandOf firstFailing tooLarge isCommand reservedAddressByte reservedInstanceByte powerCycle reservedEvent blankNotZero
+unfolding commandOf firstFailing
 command-says f frame one = go (addressOf a) (address-says a (small f 23 16) (command-sum f frame .1 ∙ one))
   where
     a : ℕ
@@ -68,10 +72,17 @@ command-says f frame one = go (addressOf a) (address-says a (small f 23 16) (com
     o : ℕ
     o = bits f 7 0
 
-    aim : (x : Address) → addressSays a (Addressed.To x) ≡ true → (t : Targeted) → targetSays i t ≡ true → Says f (aimed x t o)
+    aim : (x : Address) → addressSays a (Addressed.To x) ≡ true →
+        (t : Targeted) → targetSays i t ≡ true → Says f (aimed x t o)
     aim x p (Targeted.At t) q =
         let r = both (not (reservedAddress a)) _ p in
-        simp (lt-ltb f 16777216 frame, one, denied (reservedAddress a) (r .0), denied (specialForm a) (r .1), denied (reservedInstance i) q)
+        simp (
+          lt-ltb f 16777216 frame,
+          one,
+          denied (reservedAddress a) (r .0),
+          denied (specialForm a) (r .1),
+          denied (reservedInstance i) q,
+        )
     aim x p Targeted.Reserved q =
         let r = both (not (reservedAddress a)) _ p in
         simp (lt-ltb f 16777216 frame, one, denied (reservedAddress a) (r .0), denied (specialForm a) (r .1), q)
@@ -118,14 +129,15 @@ power-eleven f none = go (powerBits f) refl
         omega (arith, cut f 15 13 (lit≤ tt), cut f 14 13 (lit≤ tt), cut f 15 15 (lit≤ tt), small f 14 13, small f 15 15) in
         clash (elevenOne f) (simp (b, d)) none
 
-schemeSays : ℕ → Schemed → Bool
+abbrev schemeSays : ℕ → Schemed → Bool
 schemeSays f (Schemed.By s) = not (elevenOne f)
 schemeSays f Schemed.Other = elevenOne f
 
 scheme-says : (f : ℕ) → schemeSays f (schemeOf (bit f 23) (bit f 22) (bit f 15)) ≡ true
-unfolding schemeOf schemeSays
+unfolding schemeOf
 scheme-says f =
-    let two : bits f 23 22 ≡ 2 * bit f 23 + bit f 22 = omega (arith, cut f 23 22 (lit≤ tt), cut f 22 22 (lit≤ tt), cut f 23 23 (lit≤ tt)) in
+    let two : bits f 23 22 ≡ 2 * bit f 23 + bit f 22 =
+    omega (arith, cut f 23 22 (lit≤ tt), cut f 22 22 (lit≤ tt), cut f 23 23 (lit≤ tt)) in
     let b23 = small f 23 23 in
     let b22 = small f 22 22 in
     let b15 = small f 15 15 in
@@ -141,7 +153,7 @@ scheme-says f =
     P x = schemeSays f x ≡ true
 
 event-says : (f : ℕ) → f < 2 ^ 24 → (bit f 16 ≡ 1 → ⊥) → Says f (eventOf f)
-unfolding eventOf otherOf powerOf schemeSays firstFailing tooLarge isCommand reservedAddressByte reservedInstanceByte powerCycle reservedEvent blankNotZero
+unfolding eventOf otherOf powerOf firstFailing
 event-says f frame clear = go (schemeOf (bit f 23) (bit f 22) (bit f 15)) (scheme-says f)
   where
     below : ltb f 16777216 ≡ true
@@ -153,8 +165,24 @@ event-says f frame clear = go (schemeOf (bit f 23) (bit f 22) (bit f 15)) (schem
     power : elevenOne f ≡ true → bits f 23 17 ≡ 0x7F → bits f 15 13 ≡ 7 → (x y : Fielded) →
         fieldSays (bit f 12) (bits f 11 7) x ≡ true → fieldSays (bit f 6) (bits f 5 0) y ≡ true → Says f (powered x y)
     power p h l Fielded.NotBlank y q r = simp (below, event, p, h, l, q)
-    power p h l (Fielded.Is x) Fielded.NotBlank q r = simp (below, event, p, h, l, denied (notBlank (bit f 12) (bits f 11 7)) q, r)
-    power p h l (Fielded.Is x) (Fielded.Is y) q r = simp (below, event, p, h, l, denied (notBlank (bit f 12) (bits f 11 7)) q, denied (notBlank (bit f 6) (bits f 5 0)) r)
+    power p h l (Fielded.Is x) Fielded.NotBlank q r = simp (
+      below,
+      event,
+      p,
+      h,
+      l,
+      denied (notBlank (bit f 12) (bits f 11 7)) q,
+      r,
+    )
+    power p h l (Fielded.Is x) (Fielded.Is y) q r = simp (
+      below,
+      event,
+      p,
+      h,
+      l,
+      denied (notBlank (bit f 12) (bits f 11 7)) q,
+      denied (notBlank (bit f 6) (bits f 5 0)) r,
+    )
 
     go : (x : Schemed) → schemeSays f x ≡ true → Says f (schemed x f)
     go (Schemed.By s) p = simp (below, event, power-eleven f (denied (elevenOne f) p), denied (elevenOne f) p)
@@ -169,10 +197,11 @@ event-says f frame clear = go (schemeOf (bit f 23) (bit f 22) (bit f 15)) (schem
 pub reader-numbers : ReaderNumbers
 unfolding readOf
 reader-numbers f =
-    if-lt (Says f) f 16777216
-    (λ frame. if-eq (Says f) (bit f 16) 1 (command-says f frame) (event-says f frame))
-    (λ large. unfold firstFailing tooLarge in simp (le-ltb f 16777216 large))
+    if-lt (Says f) f _
+    (λ frame. if-eq (Says f) (bit f 16) 1 (command-says f (omega arith)) (event-says f (omega arith)))
+    (λ large. unfold firstFailing in simp (le-ltb f 16777216 (omega arith)))
 
 pub writer-numbers : WriterNumbers
 unfolding writeOf firstFailing
-writer-numbers m = if-by (λ w. writingNumber w ≡ firstFailing (writerTests m)) (messageFits m) (λ e. simp e) (λ e. simp e)
+writer-numbers m =
+    if-by (λ w. writingNumber w ≡ firstFailing (writerTests m)) (messageFits m) (λ e. simp e) (λ e. simp e)

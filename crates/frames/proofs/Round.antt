@@ -4,15 +4,17 @@ use mathlib.Core.Path.{_≡_, refl, _∙_, sym, ap, subst}
 use mathlib.Core.Bool.{Bool, true, false, _&&_}
 use Prim.Native.Nat.{ℕ, _+_, _-_, _*_, _^_, _%_, _/_, _<_}
 use native.Mathlib.Omega.{arith}
-use lib.Dec.{ltb, eqb, lit≤, lit<}
+use lib.Dec.{ltb, lit≤, lit<}
 use borrow.Author.Tests.{lt-ltb, ltb-true, eqb-true}
 use Rattle.laws.specs.Choice.{if_then_else_}
 use Rattle.laws.specs.Bits.{bits, bit}
-use Rattle.laws.proofs.Tests.{if-lt, if-eq, both, and-of}
+use Rattle.laws.proofs.Tests.{if-by, if-lt, if-eq, both}
 use Rattle.laws.proofs.Bits.{above-all, above-none, cut, small, bits-is}
-use Rattle.frames.specs.Values.{targetNumber, fieldPresent, fieldValue}
-use Rattle.frames.specs.Read.{addressOf, targetOf, aimed, addressed, commandOf, schemeOf, firstField, fieldOf, powered, powerOf, otherOf, schemed, eventOf, readOf}
-use Rattle.frames.specs.Write.{addressFits, addressByte, targetByte, schemeBits, schemeLimit, eventFits, messageFits, bytesFrame, eventFrame, powerFrame, frameOf, writeOf}
+use Rattle.frames.specs.Values.{targetNumber, fieldPresent, fieldValue, writingWord}
+use Rattle.frames.specs.Read.{addressOf, targetOf, aimed, addressed, commandOf, schemeOf, firstField, fieldOf}
+use Rattle.frames.specs.Read.{powered, powerOf, otherOf, schemed, eventOf, readOf}
+use Rattle.frames.specs.Write.{addressFits, addressByte, targetByte, schemeBits, schemeLimit, eventFits}
+use Rattle.frames.specs.Write.{messageFits, bytesFrame, eventFrame, powerFrame, frameOf, writeOf}
 use Rattle.frames.specs.Promises.{WritesBack, ReadsBack, OneMessage}
 use Rattle.frames.specs.declared.message.Address.{Address}
 use Rattle.frames.specs.declared.message.Addressed.{Addressed}
@@ -24,7 +26,8 @@ use Rattle.frames.specs.declared.message.Scheme.{Scheme}
 use Rattle.frames.specs.declared.message.Schemed.{Schemed}
 use Rattle.frames.specs.declared.message.Targeted.{Targeted}
 use Rattle.frames.specs.declared.message.Writing.{Writing}
-use Rattle.frames.proofs.Bytes.{addressBack, address-back, targetBack, target-back, address-forth, special-forth, target-forth}
+use Rattle.frames.proofs.Bytes.{addressBack, address-back, targetBack, target-back, address-forth}
+use Rattle.frames.proofs.Bytes.{special-forth, target-forth}
 
 -- a frame as the sum of its fields: a command, an event, a power event
 module _ (f : ℕ) (frame : f < 2 ^ 24) where
@@ -100,21 +103,30 @@ command-back f frame odd = go (addressOf a) (address-back a (small f 23 16) (com
     sum : f ≡ o + 256 * i + 65536 * a
     sum = command-sum f frame .0
 
-    aim : (x : Address) → addressBack a (Addressed.To x) ≡ true → (t : Targeted) → targetBack i t ≡ true → Back f (aimed x t o)
+    aim : (x : Address) → addressBack a (Addressed.To x) ≡ true →
+        (t : Targeted) → targetBack i t ≡ true → Back f (aimed x t o)
     aim x p Targeted.Reserved q = tt
     aim x p (Targeted.At t) q =
         let pa = both (addressFits x) _ p in
         let ea : addressByte x ≡ a = eqb-true _ _ (pa .1) in
         let pt = both (ltb (targetNumber t) 32) _ q in
         let et : targetByte t ≡ i = eqb-true _ _ (pt .1) in
-        written (Message.Command x t o) f (simp (lt-ltb o 256 (small f 7 0), pa .0, pt .0)) (simp (ea, et) (omega (arith, sum)))
+        written (Message.Command x t o) f (simp (
+          lt-ltb o 256 (small f 7 0),
+          pa .0,
+          pt .0,
+        )) (simp (ea, et) (omega (arith, sum)))
 
     go : (x : Addressed) → addressBack a x ≡ true → Back f (addressed x i o)
     go Addressed.Reserved p = tt
     go (Addressed.Special s) p =
         let q = both (ltb s 16) _ p in
         let e : 0xC1 + s * 2 ≡ a = eqb-true _ _ (q .1) in
-        written (Message.Special s i o) f (simp (lt-ltb i 256 (small f 15 8), lt-ltb o 256 (small f 7 0), q .0)) (simp e (omega (arith, sum)))
+        written (Message.Special s i o) f (simp (
+          lt-ltb i 256 (small f 15 8),
+          lt-ltb o 256 (small f 7 0),
+          q .0,
+        )) (simp e (omega (arith, sum)))
     go (Addressed.To x) p = aim x p (targetOf i) (target-back i (small f 15 8))
 
 -- a bit and its field
@@ -130,7 +142,8 @@ field-back b v two =
 power-back : (f : ℕ) → f < 2 ^ 24 → bit f 16 ≡ 0 → bits f 23 17 ≡ 0x7F → bits f 15 13 ≡ 7 → Back f (powerOf f)
 unfolding powerOf powerFrame
 power-back f frame even high low =
-    go (fieldOf (bit f 12) (bits f 11 7)) (fieldOf (bit f 6) (bits f 5 0)) (field-back _ _ (small f 12 12)) (field-back _ _ (small f 6 6))
+    go (fieldOf (bit f 12) (bits f 11 7)) (fieldOf (bit f 6) (bits f 5 0))
+    (field-back _ _ (small f 12 12)) (field-back _ _ (small f 6 6))
   where
     go : (x y : Fielded) → FieldBack (bit f 12) (bits f 11 7) x → FieldBack (bit f 6) (bits f 5 0) y → Back f (powered x y)
     go Fielded.NotBlank y p q = tt
@@ -144,7 +157,8 @@ power-back f frame even high low =
 abbrev SchemeBack : ℕ → Schemed → Type 0
 SchemeBack f (Schemed.By s) =
     (firstField s f < schemeLimit s)
-    × (schemeBits s + 131072 * firstField s f ≡ 32768 * bit f 15 + 131072 * bits f 21 17 + 4194304 * bit f 22 + 8388608 * bit f 23)
+    × (schemeBits s + 131072 * firstField s f
+    ≡ 32768 * bit f 15 + 131072 * bits f 21 17 + 4194304 * bit f 22 + 8388608 * bit f 23)
 SchemeBack f Schemed.Other = Unit {0}
 
 scheme-back : (f : ℕ) → f < 2 ^ 24 → SchemeBack f (schemeOf (bit f 23) (bit f 22) (bit f 15))
@@ -171,21 +185,27 @@ event-back f frame even = go (schemeOf (bit f 23) (bit f 22) (bit f 15)) (scheme
         (λ h. tt)
     go (Schemed.By s) p =
         written (Message.Event s (firstField s f) (bits f 14 10) (bits f 9 0)) f
-        (simp (lt-ltb (firstField s f) (schemeLimit s) (p .0), lt-ltb (bits f 14 10) 32 (small f 14 10), lt-ltb (bits f 9 0) 1024 (small f 9 0)))
+        (simp (
+          lt-ltb (firstField s f) (schemeLimit s) (p .0),
+          lt-ltb (bits f 14 10) 32 (small f 14 10),
+          lt-ltb (bits f 9 0) 1024 (small f 9 0),
+        ))
         (omega (arith, p .1, event-sum f frame))
 
 read-back : (f : ℕ) → Back f (readOf f)
 unfolding readOf
 read-back f =
-    if-lt (Back f) f 16777216
-    (λ frame. if-eq (Back f) (bit f 16) 1 (command-back f frame) (λ n. event-back f frame (omega (arith, small f 16 16))))
+    if-lt (Back f) f _
+    (λ h. let frame : f < 2 ^ 24 = omega arith in
+    if-eq (Back f) (bit f 16) 1 (command-back f frame) (λ n. event-back f frame (omega (arith, small f 16 16))))
     (λ l. tt)
 
 pub writes-back : WritesBack
 writes-back f m e = subst (Back f) e (read-back f)
 
 -- reading a frame that is given as a sum: a command
-command-read : (f a i o : ℕ) → f ≡ bytesFrame a i o → a < 256 → a % 2 ≡ 1 → i < 256 → o < 256 → readOf f ≡ addressed (addressOf a) i o
+command-read : (f a i o : ℕ) → f ≡ bytesFrame a i o → a < 256 → a % 2 ≡ 1 → i < 256 → o < 256 →
+    readOf f ≡ addressed (addressOf a) i o
 unfolding readOf commandOf bytesFrame
 command-read f a i o e ha odd hi ho =
     simp (
@@ -198,8 +218,12 @@ command-read f a i o e ha odd hi ho =
 
 -- an event: bits 23 and 22 are a and b, bits 21..17 hold g, bit 15 is d
 module _ (f rest : ℕ) (tail : rest < 32768) where
-  tops : (a b g d : ℕ) → a < 2 → b < 2 → g < 32 → d < 2 → f ≡ a * 8388608 + b * 4194304 + g * 131072 + d * 32768 + rest →
-      (schemeOf (bit f 23) (bit f 22) (bit f 15) ≡ schemeOf a b d) × (bits f 22 17 ≡ b * 32 + g) × (bits f 21 17 ≡ g) × (bit f 16 ≡ 0)
+  tops : (a b g d : ℕ) → a < 2 → b < 2 → g < 32 → d < 2 →
+      f ≡ a * 8388608 + b * 4194304 + g * 131072 + d * 32768 + rest →
+      (schemeOf (bit f 23) (bit f 22) (bit f 15) ≡ schemeOf a b d)
+      × (bits f 22 17 ≡ b * 32 + g)
+      × (bits f 21 17 ≡ g)
+      × (bit f 16 ≡ 0)
   tops a b g d ha hb hg hd e = (
     simp (
       bits-is f 23 23 0 a (b * 4194304 + g * 131072 + d * 32768 + rest) (omega arith) (omega arith) (omega arith),
@@ -236,7 +260,8 @@ scheme-top Scheme.ShortNumber x h = (1 + x * 4, omega arith, omega arith)
 scheme-top Scheme.GroupType x h = (256 + x * 4, omega arith, omega arith)
 scheme-top Scheme.PrimaryType x h = (384 + x * 4, omega arith, omega arith)
 
-event-read : (s : Scheme) (x y i : ℕ) → eventFits s x y i ≡ true → readOf (eventFrame (schemeBits s) x y i) ≡ Reading.Got (Message.Event s x y i)
+event-read : (s : Scheme) (x y i : ℕ) → eventFits s x y i ≡ true →
+    readOf (eventFrame (schemeBits s) x y i) ≡ Reading.Got (Message.Event s x y i)
 unfolding readOf eventOf eventFits eventFrame
 event-read s x y i fits =
     let p = both (ltb x (schemeLimit s)) _ fits in
@@ -289,13 +314,15 @@ message-read (Message.Command a t o) e =
     let q = both (addressFits a) _ (p .1) in
     let x = address-forth a (q .0) in
     let y = target-forth t (q .1) in
-    command-read (frameOf (Message.Command a t o)) (addressByte a) (targetByte t) o refl (x .1) (x .2) (y .1) (ltb-true o 256 (p .0))
+    command-read (frameOf (Message.Command a t o)) (addressByte a) (targetByte t) o refl
+    (x .1) (x .2) (y .1) (ltb-true o 256 (p .0))
     ∙ simp (x .0, y .0)
 message-read (Message.Special s i o) e =
     let p = both (ltb i 256 && ltb o 256) _ e in
     let q = both (ltb i 256) _ (p .0) in
     let h : s < 16 = ltb-true s 16 (p .1) in
-    command-read (frameOf (Message.Special s i o)) (0xC1 + s * 2) i o refl (omega arith) (omega arith) (ltb-true i 256 (q .0)) (ltb-true o 256 (q .1))
+    command-read (frameOf (Message.Special s i o)) (0xC1 + s * 2) i o refl
+    (omega arith) (omega arith) (ltb-true i 256 (q .0)) (ltb-true o 256 (q .1))
     ∙ simp (special-forth s h)
 message-read (Message.Event s x y i) e = event-read s x y i e
 message-read (Message.Power g s) e =
@@ -321,8 +348,23 @@ reads-back m f e =
     let p = write-says m f e in
     ap readOf (sym (p .1)) ∙ message-read m (p .0)
 
-got-one : (m n : Message) → Reading.Got m ≡ Reading.Got n → m ≡ n
-got-one m n e = cc
+frame-below : (m : Message) → messageFits m ≡ true → frameOf m < 2 ^ 24
+unfolding readOf
+frame-below m e =
+    if-lt (λ r. r ≡ Reading.Got m → frameOf m < 2 ^ 24) (frameOf m) _ (λ h q. omega arith)
+    (λ l q. let z : _≡_ {A = ℕ} 0 1 = cc in omega arith) (message-read m e)
 
 pub one-message : OneMessage
-one-message m n f p q = got-one m n (sym (reads-back m f p) ∙ reads-back n f q)
+unfolding writeOf
+one-message m n e = if-by (λ w. writingWord (writeOf m) ≡ writingWord w → m ≡ n) (messageFits n) same other
+  where
+    word : writingWord (writeOf m) ≡ frameOf m
+    word = ap writingWord (written m (frameOf m) e refl)
+
+    same : messageFits n ≡ true → writingWord (writeOf m) ≡ frameOf n → m ≡ n
+    same g q =
+        let p : Reading.Got m ≡ Reading.Got n = sym (message-read m e) ∙ ap readOf (sym word ∙ q) ∙ message-read n g in
+        cc
+
+    other : messageFits n ≡ false → writingWord (writeOf m) ≡ 6 * 2 ^ 24 → m ≡ n
+    other g q = absurd (omega (arith, frame-below m e, sym word ∙ q))

@@ -19,7 +19,7 @@ use Rattle.frames.specs.declared.message.Writing.{Writing}
 pub data Case : Type 0 where
   command : ℕ → Message → Case  -- the frame of a command, read and written
   event : Source → ℕ → Message → Case  -- an event is composed as the frame, which is read as the message
-  power : ℕ → ℕ → ℕ → Message → Case  -- a short address and group bits are composed as the frame, which is read as the message
+  power : ℕ → ℕ → ℕ → Message → Case  -- the same of a power event, from a short address and group bits
   refused : ℕ → ℕ → Case  -- the frame is refused with the number
 
 abbrev pub CaseHolds : Case → Type 0
@@ -35,7 +35,15 @@ AllHold (c ∷ cs) = CaseHolds c × AllHold cs
 -- scheme, type, number, primary group, short address, group bits, information
 abbrev from : ℕ → ℕ → ℕ → ℕ → ℕ → ℕ → ℕ → Source
 from scheme sort number primary short groups information =
-    record { sort = sort; number = number; primary = primary; short = short; groups = groups; information = information; scheme = scheme }
+    record {
+      sort = sort;
+      number = number;
+      primary = primary;
+      short = short;
+      groups = groups;
+      information = information;
+      scheme = scheme;
+    }
 
 abbrev pub sheet : List Case
 sheet =

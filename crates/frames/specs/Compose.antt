@@ -17,13 +17,16 @@ use Rattle.frames.specs.declared.message.Writing.{Writing}
 unfoldable pub orMissing : ℕ → ℕ → Bool
 orMissing x limit = ltb x limit || eqb x 255
 
--- type, number 0..31, primary group 0..31 or 255, short address 0..63 or 255, 32 group bits, information 0..1023, scheme 0..4, or 255
+-- type, number 0..31, primary group 0..31 or 255, short address 0..63 or 255, 32 group bits,
+-- information 0..1023, scheme 0..4, or 255
 unfoldable pub sourceFits : Source → Bool
 sourceFits e =
     ltb (e .sort) 32
     && (ltb (e .number) 32
     && (orMissing (e .primary) 32
-    && (orMissing (e .short) 64 && (ltb (e .groups) (2 ^ 32) && (ltb (e .information) 1024 && orMissing (e .scheme) 5)))))
+    && (orMissing (e .short) 64
+    && (ltb (e .groups) (2 ^ 32)
+    && (ltb (e .information) 1024 && orMissing (e .scheme) 5)))))
 
 -- 255 for "as shipped", which is 0
 unfoldable pub shippedOf : ℕ → ℕ

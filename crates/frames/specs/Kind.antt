@@ -10,7 +10,8 @@ within first last b = leb first b && leb b last
 
 -- 0x00-0x1F instance number, 0x80-0x9F instance group, 0xC0-0xDF instance type;
 -- features at number 0x20-0x3F, group 0xA0-0xBF, type 0x60-0x7F;
--- 0xF9 feature broadcast, 0xFC device feature, 0xFD feature at instance broadcast, 0xFE device, 0xFF instance broadcast;
+-- 0xF9 feature broadcast, 0xFC device feature, 0xFD feature at instance broadcast,
+-- 0xFE device, 0xFF instance broadcast;
 -- 0: the other 59 are reserved
 unfoldable pub kindOf : ℕ → ℕ
 kindOf b =

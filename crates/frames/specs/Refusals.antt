@@ -1,27 +1,30 @@
--- When each number is given: paper 01, "Refusal numbers". Proved in proofs/Refusals.antt.
+-- When each number is given: paper 01, "Refusal numbers".
+-- Proved in proofs/: Refusals (reader, writer), Composed (composers) and Exactly.
 -- Assumes nothing.
 use mathlib.Core.Path.{_≡_}
 use mathlib.Core.Bool.{Bool, not, _&&_, _||_}
 use mathlib.Core.List.{List, [], _∷_}
-use Prim.Native.Nat.{ℕ, _%_}
+use Prim.Native.Nat.{ℕ, _<_}
 use lib.Dec.{ltb, eqb}
 use Rattle.laws.specs.Bits.{bits, bit}
 use Rattle.laws.specs.Counts.{below, count}
-use Rattle.laws.specs.Numbers.{Test, test, firstFailing}
+use Rattle.laws.specs.Numbers.{Test, test, firstFailing, Given}
 use Rattle.frames.specs.Kind.{kindOf}
 use Rattle.frames.specs.Values.{readingNumber, writingNumber}
 use Rattle.frames.specs.Read.{shortForm, groupForm, specialForm, readOf}
 use Rattle.frames.specs.Write.{messageFits, writeOf}
 use Rattle.frames.specs.Compose.{sourceFits, composeOf, powerFits, composePowerOf}
 use Rattle.frames.specs.declared.message.Message.{Message}
+use Rattle.frames.specs.declared.message.Reading.{Reading}
 use Rattle.frames.specs.declared.message.Source.{Source}
+use Rattle.frames.specs.declared.message.Writing.{Writing}
 
 -- bit 16 set means command, clear means event
-unfoldable pub isCommand : ℕ → Bool
+abbrev pub isCommand : ℕ → Bool
 isCommand f = eqb (bit f 16) 1
 
 -- 1: frame 16,777,216 or more
-unfoldable pub tooLarge : ℕ → Bool
+abbrev pub tooLarge : ℕ → Bool
 tooLarge f = not (ltb f 16777216)
 
 -- an odd address byte that is none of the five forms
@@ -30,7 +33,7 @@ reservedAddress b =
     eqb (bit b 0) 1 && not (shortForm b || (groupForm b || (eqb b 0xFD || (eqb b 0xFF || specialForm b))))
 
 -- 2: reserved address byte
-unfoldable pub reservedAddressByte : ℕ → Bool
+abbrev pub reservedAddressByte : ℕ → Bool
 reservedAddressByte f = isCommand f && reservedAddress (bits f 23 16)
 
 -- an instance byte that the table of kinds leaves out
@@ -38,15 +41,15 @@ unfoldable pub reservedInstance : ℕ → Bool
 reservedInstance b = eqb (kindOf b) 0
 
 -- 3: reserved instance byte; a special command has none
-unfoldable pub reservedInstanceByte : ℕ → Bool
+abbrev pub reservedInstanceByte : ℕ → Bool
 reservedInstanceByte f = isCommand f && (not (specialForm (bits f 23 16)) && reservedInstance (bits f 15 8))
 
 -- bits 23..17 all ones with bits 15, 14, 13 ones: power cycle
-unfoldable pub powerCycle : ℕ → Bool
+abbrev pub powerCycle : ℕ → Bool
 powerCycle f = not (isCommand f) && (eqb (bits f 23 17) 0x7F && eqb (bits f 15 13) 7)
 
 -- 4: reserved event: bits 23, 22 and 15 are 11 and 1, and it is no power cycle
-unfoldable pub reservedEvent : ℕ → Bool
+abbrev pub reservedEvent : ℕ → Bool
 reservedEvent f = not (isCommand f) && ((eqb (bits f 23 22) 3 && eqb (bit f 15) 1) && not (powerCycle f))
 
 -- a field whose bit is clear is not zero
@@ -54,7 +57,7 @@ abbrev pub notBlank : ℕ → ℕ → Bool
 notBlank announced v = eqb announced 0 && not (eqb v 0)
 
 -- 5: power event with a non-zero blank field
-unfoldable pub blankNotZero : ℕ → Bool
+abbrev pub blankNotZero : ℕ → Bool
 blankNotZero f = powerCycle f && (notBlank (bit f 12) (bits f 11 7) || notBlank (bit f 6) (bits f 5 0))
 
 -- the reader tests 1, 2, 3, 4, 5
@@ -88,6 +91,19 @@ powerTests short groups = test 6 (powerFits short groups) ∷ []
 
 abbrev pub PowerNumbers : Type 0
 PowerNumbers = (short groups : ℕ) → writingNumber (composePowerOf short groups) ≡ firstFailing (powerTests short groups)
+
+-- so each number is given exactly if every test before its own passes and its own fails
+abbrev pub ReadingExactly : Reading → List Test → Type 0
+ReadingExactly r ts = (n : ℕ) → 0 < n → (r ≡ Reading.Refused n → Given ts n) × (Given ts n → r ≡ Reading.Refused n)
+
+abbrev pub WritingExactly : Writing → List Test → Type 0
+WritingExactly w ts = (n : ℕ) → 0 < n → (w ≡ Writing.Refused n → Given ts n) × (Given ts n → w ≡ Writing.Refused n)
+
+pub record Exactly : Type 0 where
+  pub read : (f : ℕ) → ReadingExactly (readOf f) (readerTests f)
+  pub write : (m : Message) → WritingExactly (writeOf m) (writerTests m)
+  pub compose-event : (e : Source) → WritingExactly (composeOf e) (composerTests e)
+  pub compose-power : (short groups : ℕ) → WritingExactly (composePowerOf short groups) (powerTests short groups)
 
 -- the other 14 odd bytes are reserved
 abbrev pub Reserved14 : Type 0

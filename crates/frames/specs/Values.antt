@@ -1,6 +1,6 @@
 -- The number and the values that paper 01 gives to each case of the enums, and the case of a number and a value.
 -- Assumes nothing.
-use Prim.Native.Nat.{ℕ}
+use Prim.Native.Nat.{ℕ, _*_, _^_}
 use lib.Dec.{eqb}
 use Rattle.laws.specs.Choice.{if_then_else_}
 use Rattle.frames.specs.declared.message.Address.{Address}
@@ -11,7 +11,9 @@ use Rattle.frames.specs.declared.message.Target.{Target}
 use Rattle.frames.specs.declared.message.Targeted.{Targeted}
 use Rattle.frames.specs.declared.message.Writing.{Writing}
 
--- what has no number has 0
+-- Kinds are numbered in the order of the cases. What has no number has 0.
+-- Back from a number: one that no case has falls to the last case, and `matched` of Word.antt refuses it.
+
 abbrev pub addressKind : Address → ℕ
 addressKind (Address.Short n) = 0
 addressKind (Address.Group n) = 1
@@ -108,7 +110,7 @@ abbrev pub writingNumber : Writing → ℕ
 writingNumber (Writing.Frame f) = 0
 writingNumber (Writing.Refused n) = n
 
--- and the frame, 0 where there is none
-abbrev pub writingFrame : Writing → ℕ
-writingFrame (Writing.Frame f) = f
-writingFrame (Writing.Refused n) = 0
+-- a writing as one number: the refusal number stands above the 24 bits of a frame
+abbrev pub writingWord : Writing → ℕ
+writingWord (Writing.Frame f) = f
+writingWord (Writing.Refused n) = n * 2 ^ 24

@@ -4,7 +4,8 @@ use Prim.Native.Nat.{ℕ, _+_, _-_, _*_, _^_}
 use lib.Dec.{eqb}
 use Rattle.laws.specs.Choice.{if_then_else_}
 use Rattle.laws.specs.Bits.{bits}
-use Rattle.frames.specs.Values.{addressKind, addressNumber, addressAt, targetKind, targetNumber, targetAt, schemeNumber, schemeAt, fieldPresent, fieldValue, fieldAt}
+use Rattle.frames.specs.Values.{addressKind, addressNumber, addressAt, targetKind, targetNumber, targetAt}
+use Rattle.frames.specs.Values.{schemeNumber, schemeAt, fieldPresent, fieldValue, fieldAt}
 use Rattle.frames.specs.Read.{aimed}
 use Rattle.frames.specs.declared.message.Message.{Message}
 use Rattle.frames.specs.declared.message.Reading.{Reading}
@@ -20,8 +21,9 @@ messageKind (Message.Special n x y) = 1
 messageKind (Message.Event s x y i) = 2 + schemeNumber s
 messageKind (Message.Power g s) = 7
 
--- its values: address kind, address number, target kind, target number, opcode; special number and its two free bytes;
--- the two fields and the information, high byte first; group present 0/1, group, short address present 0/1, short address
+-- its values. A command: address kind, address number, target kind, target number, opcode. A special command: its number,
+-- its two free bytes. An event: its two fields, the information, high byte first. A power cycle: group present 0/1, group,
+-- short address present 0/1, short address. What is not used is 0
 abbrev pub messageValues : Message → ℕ
 messageValues (Message.Command a t o) = sixBytes (addressKind a) (addressNumber a) (targetKind t) (targetNumber t) o 0
 messageValues (Message.Special n x y) = sixBytes n x y 0 0 0
@@ -47,4 +49,5 @@ matched (Reading.Got m) w = if eqb (wordOf (Reading.Got m)) w then Reading.Got m
 matched (Reading.Refused n) w = Reading.Refused 6
 
 unfoldable pub messageOf : ℕ → Reading
-messageOf w = matched (messageAt (bits w 55 48) (bits w 47 40) (bits w 39 32) (bits w 31 24) (bits w 23 16) (bits w 15 8)) w
+messageOf w =
+    matched (messageAt (bits w 55 48) (bits w 47 40) (bits w 39 32) (bits w 31 24) (bits w 23 16) (bits w 15 8)) w

@@ -3,4 +3,8 @@ pub mod Reaching
 pub mod Writes
 pub mod Run
 pub mod StagedRoom
+pub mod Changes
+pub mod LatchRoom
+pub mod Fills
+pub mod Locks
 pub mod Filling

@@ -24,7 +24,7 @@ use Rattle.memory.specs.Staged.{noneStaged, isNext, unlocked, taken, byt
 use Rattle.memory.specs.Promises.{writes, WholeValue}
 use Rattle.memory.specs.declared.staged.Staged.{Staged}
 use Rattle.memory.specs.declared.staged.Wrote.{Wrote}
-use Rattle.memory.proofs.Writes.{Takes, write-more, write-last}
+use Rattle.memory.proofs.Writes.{write-more, write-last}
 
 module _ (rs : List Record) (store : List ℕ) (r : Record) (small : r .width ≤ 8) (W : writable r ≡ true) (U : unlocked rs store r ≡ true)
     (F : (i : ℕ) → i < r .width → holder rs (r .bank) (r .first + i) ≡ At r) where

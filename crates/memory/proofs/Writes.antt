@@ -15,10 +15,13 @@ use Rattle.laws.proofs.Tests.{if-by, if-eq}
 use Rattle.laws.proofs.Sides.{either, and-left, and-right}
 use Rattle.banks.specs.Map.{writable}
 use Rattle.banks.specs.Lookup.{holder, putValue}
+use Rattle.banks.specs.Facts.{Holds}
+use Rattle.banks.proofs.Locations.{holds-is, holder-at}
 use Rattle.banks.specs.declared.record.Record.{Record}
 use Rattle.banks.specs.declared.holder.Found.{Found}
 use Rattle.banks.specs.declared.holder.Found.the-variants.{At, Nothing}
 use Rattle.memory.specs.Staged.{noneStaged, isNext, unlocked, taken, bytesWith, stagedOf, wrote, takeByte, dropped, writeFound, writeAt, writeOf}
+use Rattle.memory.specs.Promises.{Takes, WriteDrops, WriteNotLast}
 use Rattle.memory.specs.declared.staged.Staged.{Staged}
 use Rattle.memory.specs.declared.staged.Wrote.{Wrote}
 
@@ -57,24 +60,22 @@ taken-is rs store g r location e =
     }
 
 module _ (rs : List Record) (store : List ℕ) (g : Staged) (bank location byte : ℕ) where
-  abbrev pub number : Record → ℕ
+  abbrev number : Record → ℕ
   number r = location - r .first
 
   -- byte number k of the value is staged
-  abbrev pub stages : Record → Outcome Wrote
+  abbrev stages : Record → Outcome Wrote
   stages r = leaves (wrote true (stagedOf r (number r + 1) (bytesWith g (number r) byte))) store
 
   -- the whole value is put
-  abbrev pub puts : Record → Outcome Wrote
+  abbrev puts : Record → Outcome Wrote
   puts r = leaves (wrote true noneStaged) (putValue r (take (r .width) (bytesWith g (number r) byte)) store)
 
-  -- the byte at the location is taken, for this value
-  pub record Takes (r : Record) : Type 0 where
-    pub found : holder rs bank location ≡ At r
-    pub took : taken rs store g r location ≡ true
+  abbrev TakesIt : Record → Type 0
+  TakesIt r = Takes rs store g bank location r
 
-  pub write-cases : (P : Outcome Wrote → Type 0) → P (dropped store) → ((r : Record) → Takes r → (number r + 1 ≡ r .width → ⊥) → P (stages r))
-      → ((r : Record) → Takes r → number r + 1 ≡ r .width → P (puts r)) → P (writeOf rs store g bank location byte)
+  pub write-cases : (P : Outcome Wrote → Type 0) → P (dropped store) → ((r : Record) → TakesIt r → (number r + 1 ≡ r .width → ⊥) → P (stages r))
+      → ((r : Record) → TakesIt r → number r + 1 ≡ r .width → P (puts r)) → P (writeOf rs store g bank location byte)
   unfolding writeOf writeAt writeFound takeByte
   write-cases P none more last = go (holder rs bank location) refl
     where
@@ -88,7 +89,7 @@ module _ (rs : List Record) (store : List ℕ) (g : Staged) (bank location byte 
           (λ t. none)
       go Nothing e = none
 
-  module _ (r : Record) (t : Takes r) where
+  module _ (r : Record) (t : TakesIt r) where
     pub write-more : (number r + 1 ≡ r .width → ⊥) → writeOf rs store g bank location byte ≡ stages r
     unfolding writeOf writeAt writeFound takeByte
     write-more w = rw (t .found, t .took, ne-eqb (number r + 1) (r .width) w)
@@ -96,3 +97,17 @@ module _ (rs : List Record) (store : List ℕ) (g : Staged) (bank location byte 
     pub write-last : number r + 1 ≡ r .width → writeOf rs store g bank location byte ≡ puts r
     unfolding writeOf writeAt writeFound takeByte
     write-last w = rw (t .found, t .took, eq-eqb (number r + 1) (r .width) w)
+
+    -- the location lies in the value
+    pub takes-in : Holds r bank location
+    takes-in = holds-is r bank location (holder-at bank location rs r (t .found) .1)
+
+pub write-drops : WriteDrops
+write-drops rs store g bank location byte none =
+    write-cases rs store g bank location byte (λ (o : Outcome Wrote). o ≡ leaves (wrote false noneStaged) store) refl
+    (λ r t w. absurd (none r t)) (λ r t w. absurd (none r t))
+
+pub write-not-last : WriteNotLast
+write-not-last rs store g bank location byte none =
+    write-cases rs store g bank location byte (λ (o : Outcome Wrote). o .store ≡ store) refl (λ r t w. refl)
+    (λ r t w. let h = takes-in rs store g bank location byte r t in absurd (none r (record { takes = t; last = omega arith })))

@@ -13,6 +13,15 @@ use Rattle.banks.specs.declared.record.Record.{Record}
 use Rattle.memory.specs.declared.filled.Filling.{Filling}
 use Rattle.memory.specs.declared.filled.Filling.the-variants.{PowerOn, Reset}
 
+-- number and values of each case: a power-on is a record of kind 1; RESET MEMORY BANK is 0x11, and goes by DTR0
+abbrev pub fillingNumber : Filling → ℕ
+fillingNumber PowerOn = 1
+fillingNumber (Reset dtr0) = 0x11
+
+abbrev pub fillingValues : Filling → List ℕ
+fillingValues PowerOn = []
+fillingValues (Reset dtr0) = dtr0 ∷ []
+
 -- DTR0=0 means each mapped bank 1..199, else bank DTR0
 unfoldable pub selects : ℕ → ℕ → Bool
 selects dtr0 bank = if eqb dtr0 0 then leb 1 bank else eqb bank dtr0
