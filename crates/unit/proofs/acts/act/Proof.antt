@@ -1,3 +1,5 @@
+use mathlib.Core.Path.{refl}
+use Rattle.unit.specs.Step.{done}
 use borrow.Author.Needs.{needs}
 use Rattle.unit.proofs.acts.act.Statement.{statement}
 use Rattle.unit.proofs.acts.act.Tie as tie
@@ -117,15 +119,18 @@ read-at-requires c κs = search needs
 
 -- src/acts.rt:86:1
 returns : tie.Need-returns
-returns c = ?
+unfolding done
+returns c = rw (c@enum-told .given .1) (record { answer = cc; store = refl })
 
 -- src/acts.rt:86:1
 returns-2 : tie.Need-returns-2
-returns-2 c = ?
+unfolding done
+returns-2 c = rw (c@enum-told2 .given .1) (record { answer = cc; store = refl })
 
 -- src/acts.rt:86:1
 returns-3 : tie.Need-returns-3
-returns-3 c = ?
+unfolding done
+returns-3 c = rw (c@enum-told3 .given .1) (record { answer = cc; store = refl })
 
 -- src/acts.rt:86:1
 same-length : tie.Need-same-length
@@ -133,19 +138,23 @@ same-length c = search needs
 
 -- src/acts.rt:86:1
 returns-4 : tie.Need-returns-4
-returns-4 c = ?
+unfolding done
+returns-4 c = rw (c@due .given .1) (record { answer = c@quiet4 .ensures; store = c@fill-store .ensures })
 
 -- src/acts.rt:86:1
 returns-5 : tie.Need-returns-5
-returns-5 c = ?
+unfolding done
+returns-5 c = rw (c@due2 .given .1) (record { answer = cc; store = refl })
 
 -- src/acts.rt:86:1
 returns-6 : tie.Need-returns-6
-returns-6 c = ?
+unfolding done
+returns-6 c = rw (c@due3 .given .1) (record { answer = cc; store = refl })
 
 -- src/acts.rt:86:1
 returns-7 : tie.Need-returns-7
-returns-7 c = ?
+unfolding done
+returns-7 c = rw (c@due4 .given .1) (record { answer = c@answering .ensures; store = refl })
 
 -- src/acts.rt:86:1
 same-length-2 : tie.Need-same-length-2
@@ -153,7 +162,8 @@ same-length-2 c = search needs
 
 -- src/acts.rt:86:1
 returns-8 : tie.Need-returns-8
-returns-8 c = ?
+unfolding done
+returns-8 c = rw (c@due5 .given .1) (c@write-at .ensures)
 
 -- src/acts.rt:86:1
 same-length-3 : tie.Need-same-length-3
@@ -161,7 +171,8 @@ same-length-3 c = search needs
 
 -- src/acts.rt:86:1
 returns-9 : tie.Need-returns-9
-returns-9 c = ?
+unfolding done
+returns-9 c = rw (c@due6 .given .1) (record { answer = c@read-at .ensures; store = refl })
 
 pub act-spec : {M : Type 1} → statement M
 act-spec =

@@ -1,3 +1,4 @@
+use Rattle.unit.specs.Step.{hearing}
 use borrow.Author.Needs.{needs}
 use Rattle.unit.proofs.acts.hear.Statement.{statement}
 use Rattle.unit.proofs.acts.hear.Tie as tie
@@ -26,7 +27,8 @@ with-waiting-requires c κs = search needs
 
 -- src/acts.rt:34:9
 returns : tie.Need-returns
-returns c = ?
+unfolding hearing
+returns c = rw (c@if1 .taken) (cc)
 
 -- src/acts.rt:36:5
 with-waiting-requires-2 : tie.Need-with-waiting-requires-2
@@ -34,7 +36,8 @@ with-waiting-requires-2 c κs = search needs
 
 -- src/acts.rt:29:1
 returns-2 : tie.Need-returns-2
-returns-2 c = ?
+unfolding hearing
+returns-2 c = rw (c@if1 .left) (cc)
 
 pub hear-spec : {M : Type 1} → statement M
 hear-spec =

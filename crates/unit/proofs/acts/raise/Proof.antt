@@ -1,3 +1,5 @@
+use borrow.Author.Tests.{eq-eqb, ne-eqb}
+use Rattle.unit.specs.Step.{raised}
 use borrow.Author.Needs.{needs}
 use Rattle.unit.proofs.acts.raise.Statement.{statement}
 use Rattle.unit.proofs.acts.raise.Tie as tie
@@ -16,7 +18,8 @@ with-registers-requires c κs = search needs
 
 -- src/acts.rt:45:9
 returns : tie.Need-returns
-returns c = ?
+unfolding raised
+returns c = rw (eq-eqb _ _ (c@if1 .taken)) (cc)
 
 -- src/acts.rt:47:50
 add-with-dtr : tie.Need-add-with-dtr
@@ -32,7 +35,8 @@ with-registers-requires-2 c κs = search needs
 
 -- src/acts.rt:40:1
 returns-2 : tie.Need-returns-2
-returns-2 c = ?
+unfolding raised
+returns-2 c = rw (ne-eqb _ _ (c@if1 .left)) (cc)
 
 pub raise-spec : {M : Type 1} → statement M
 raise-spec =

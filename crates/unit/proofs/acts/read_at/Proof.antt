@@ -1,3 +1,4 @@
+use Rattle.unit.specs.Step.{readBy}
 use borrow.Author.Needs.{needs}
 use Rattle.unit.proofs.acts.read_at.Statement.{statement}
 use Rattle.unit.proofs.acts.read_at.Tie as tie
@@ -26,7 +27,8 @@ answering-requires c κs = search needs
 
 -- src/acts.rt:75:1
 returns : tie.Need-returns
-returns c = ?
+unfolding readBy
+returns c = rw (← c@read-byte .ensures) (cc)
 
 pub read-at-spec : {M : Type 1} → statement M
 read-at-spec =

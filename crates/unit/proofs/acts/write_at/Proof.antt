@@ -1,3 +1,4 @@
+use Rattle.unit.specs.Step.{written}
 use borrow.Author.Needs.{needs}
 use Rattle.unit.proofs.acts.write_at.Statement.{statement}
 use Rattle.unit.proofs.acts.write_at.Tie as tie
@@ -30,7 +31,8 @@ same-length c = search needs
 
 -- src/acts.rt:51:1
 returns : tie.Need-returns
-returns c = ?
+unfolding written
+returns c = record { answer = rw (← c@write-byte .ensures .answer) (cc); store = c@write-byte .ensures .store }
 
 pub write-at-spec : {M : Type 1} → statement M
 write-at-spec =

@@ -1,3 +1,8 @@
+use Rattle.unit.specs.Due.{dueBy, dueOf}
+use Rattle.hearing.specs.Meaning.{meaningOf}
+use mathlib.Core.Path.{refl}
+use Rattle.banks.proofs.Members.{placed-ordered}
+use Rattle.unit.specs.Step.{frameOf, done}
 use borrow.Author.Needs.{needs}
 use Rattle.unit.proofs.calls.frame_step.Statement.{statement}
 use Rattle.unit.proofs.calls.frame_step.Tie as tie
@@ -33,7 +38,8 @@ quiet-requires c κs = search needs
 
 -- src/calls.rt:38:9
 returns : tie.Need-returns
-returns c = ?
+unfolding frameOf dueOf meaningOf dueBy done
+returns c = rw (← c@read .ensures, c@enum-told .given .1) (record { answer = cc; store = refl })
 
 -- src/calls.rt:41:9
 message-meaning-requires : tie.Need-message-meaning-requires
@@ -41,7 +47,7 @@ message-meaning-requires c κs = search needs
 
 -- src/calls.rt:42:9
 due-by-requires : tie.Need-due-by-requires
-due-by-requires c κs = ?
+due-by-requires c κs = placed-ordered _ _ (c@pre .0)
 
 -- src/calls.rt:43:28
 closes-requires : tie.Need-closes-requires
@@ -61,7 +67,8 @@ same-length c = search needs
 
 -- src/calls.rt:27:1
 returns-2 : tie.Need-returns-2
-returns-2 c = ?
+unfolding frameOf dueOf meaningOf
+returns-2 c = rw (← c@read .ensures, c@message .given .1, ← c@message-meaning .ensures, ← c@closes .ensures, ← c@due-by .ensures, ← c@hear2 .ensures) (c@act .ensures)
 
 pub frame-step-spec : {M : Type 1} → statement M
 frame-step-spec =

@@ -1,3 +1,7 @@
+use Rattle.unit.proofs.Behind.{powered}
+use mathlib.Core.Path.{refl, sym, _∙_}
+use borrow.Author.Tests.{eq-eqb, ne-eqb}
+use Rattle.unit.specs.Step.{powerOnOf}
 use borrow.Author.Needs.{needs}
 use Rattle.unit.proofs.calls.power_on.Statement.{statement}
 use Rattle.unit.proofs.calls.power_on.Tie as tie
@@ -21,11 +25,13 @@ same-length c = search needs
 
 -- src/calls.rt:111:9
 returns : tie.Need-returns
-returns c = ?
+unfolding powerOnOf
+returns c = rw (← c@power-number .ensures, ne-eqb _ _ (c@if1 .taken)) (record { answer = c@refusing .ensures; store = refl })
 
 -- src/calls.rt:114:5
 power-step-requires : tie.Need-power-step-requires
-power-step-requires c κs = ?
+power-step-requires c κs = let stands = powered _ _ _ _ (sym (c@power-number .ensures) ∙ c@if1 .left) in
+    (stands .in-place, stands .as-long)
 
 -- src/calls.rt:106:1
 same-length-2 : tie.Need-same-length-2
@@ -33,7 +39,8 @@ same-length-2 c = search needs
 
 -- src/calls.rt:106:1
 returns-2 : tie.Need-returns-2
-returns-2 c = ?
+unfolding powerOnOf
+returns-2 c = rw (← c@power-number .ensures, eq-eqb _ _ (c@if1 .left)) (c@power-step .ensures)
 
 pub power-on-spec : {M : Type 1} → statement M
 power-on-spec =

@@ -1,3 +1,4 @@
+use Rattle.unit.specs.Step.{powerOf}
 use borrow.Author.Needs.{needs}
 use Rattle.unit.proofs.calls.power_step.Statement.{statement}
 use Rattle.unit.proofs.calls.power_step.Tie as tie
@@ -25,7 +26,8 @@ same-length c = search needs
 
 -- src/calls.rt:48:1
 returns : tie.Need-returns
-returns c = ?
+unfolding powerOf
+returns c = record { answer = cc; store = c@fill-store .ensures }
 
 pub power-step-spec : {M : Type 1} → statement M
 power-step-spec =

@@ -1,3 +1,7 @@
+use Rattle.unit.proofs.Behind.{started}
+use mathlib.Core.Path.{refl, sym, _∙_}
+use borrow.Author.Tests.{eq-eqb, ne-eqb}
+use Rattle.unit.specs.Step.{startOf}
 use borrow.Author.Needs.{needs}
 use Rattle.unit.proofs.calls.start.Statement.{statement}
 use Rattle.unit.proofs.calls.start.Tie as tie
@@ -26,11 +30,13 @@ same-length c = search needs
 
 -- src/calls.rt:127:9
 returns : tie.Need-returns
-returns c = ?
+unfolding startOf
+returns c = rw (← c@start-number .ensures, ne-eqb _ _ (c@if1 .taken)) (record { answer = cc; store = refl })
 
 -- src/calls.rt:129:5
 power-step-requires : tie.Need-power-step-requires
-power-step-requires c κs = ?
+power-step-requires c κs = let stands = started _ _ _ _ (sym (c@start-number .ensures) ∙ c@if1 .left) in
+    (stands .in-place, stands .as-long)
 
 -- src/calls.rt:118:1
 same-length-2 : tie.Need-same-length-2
@@ -38,7 +44,8 @@ same-length-2 c = search needs
 
 -- src/calls.rt:118:1
 returns-2 : tie.Need-returns-2
-returns-2 c = ?
+unfolding startOf
+returns-2 c = rw (← c@start-number .ensures, eq-eqb _ _ (c@if1 .left)) (c@power-step .ensures)
 
 pub start-spec : {M : Type 1} → statement M
 start-spec =

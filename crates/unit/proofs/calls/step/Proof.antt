@@ -1,3 +1,7 @@
+use Rattle.unit.proofs.Behind.{stepped}
+use mathlib.Core.Path.{refl, sym, _∙_}
+use borrow.Author.Tests.{eq-eqb, ne-eqb}
+use Rattle.unit.specs.Step.{stepOf}
 use borrow.Author.Needs.{needs}
 use Rattle.unit.proofs.calls.step.Statement.{statement}
 use Rattle.unit.proofs.calls.step.Tie as tie
@@ -21,11 +25,13 @@ same-length c = search needs
 
 -- src/calls.rt:100:9
 returns : tie.Need-returns
-returns c = ?
+unfolding stepOf
+returns c = rw (← c@step-number .ensures, ne-eqb _ _ (c@if1 .taken)) (record { answer = c@refusing .ensures; store = refl })
 
 -- src/calls.rt:102:5
 frame-step-requires : tie.Need-frame-step-requires
-frame-step-requires c κs = ?
+frame-step-requires c κs = let stands = stepped _ _ _ _ _ (sym (c@step-number .ensures) ∙ c@if1 .left) in
+    (stands .in-place, stands .as-long)
 
 -- src/calls.rt:89:1
 same-length-2 : tie.Need-same-length-2
@@ -33,7 +39,8 @@ same-length-2 c = search needs
 
 -- src/calls.rt:89:1
 returns-2 : tie.Need-returns-2
-returns-2 c = ?
+unfolding stepOf
+returns-2 c = rw (← c@step-number .ensures, eq-eqb _ _ (c@if1 .left)) (c@frame-step .ensures)
 
 pub step-spec : {M : Type 1} → statement M
 step-spec =
