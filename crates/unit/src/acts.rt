@@ -68,7 +68,11 @@ fn write_at(
         enabled: door.enabled,
         staged: left,
     };
-    answering(with_door(raise(state, location), after), wrote.taken & replying, byte)
+    answering(
+        with_door(raise(state, location), after),
+        wrote.taken & replying,
+        byte,
+    )
 }
 
 // Internal: a READ in a mapped bank.
@@ -79,7 +83,11 @@ fn read_at(map: &[u8], store: &[u8], state: State, bank: u8, location: u8) -> St
     let latch = state.latch;
     let shown = memory::read_byte(map, store, latch, bank, location);
     let after = shown.latch;
-    answering(with_latch(raise(state, location), after), shown.answered, shown.answer)
+    answering(
+        with_latch(raise(state, location), after),
+        shown.answered,
+        shown.answer,
+    )
 }
 
 // Internal: what is due. Map, store and image have passed 7 to 10.

@@ -24,13 +24,7 @@ use memory::Filling;
 
 // Internal: a frame step on a map, store and state that keep the rules. Whoever runs many frames checks once, and then
 // calls this. A reserved frame goes straight to clearing the waiting one.
-pub fn frame_step(
-    map: &[u8],
-    store: &mut [u8],
-    image: &[u8],
-    state: State,
-    heard: Heard,
-) -> Stepped
+pub fn frame_step(map: &[u8], store: &mut [u8], image: &[u8], state: State, heard: Heard) -> Stepped
     requires { ⌜ (placed (now map) (length (now store)) ≡ true) × (length (now image) ≡ length (now store)) ⌝ }
     ensures { λ r. ⌜ Gives r (now (store .exit)) (frameOf (recordsOf (now (map .entry))) (now (store .entry)) (now (image .entry)) state heard) ⌝ }
 {
@@ -61,7 +55,11 @@ pub fn power_number(map: &[u8], store: &[u8], image: &[u8], state: State) -> u8
     if number != 0 {
         return number;
     }
-    if state_holds(map, store, state) { 0 } else { 12 }
+    if state_holds(map, store, state) {
+        0
+    } else {
+        12
+    }
 }
 
 // The number of a frame step: 7 to 12, then 1, or 0.
@@ -86,13 +84,7 @@ pub fn start_number(map: &[u8], store: &[u8], image: &[u8], who: Who) -> u8
     if address_holds(who.address) { 0 } else { 6 }
 }
 
-pub fn step(
-    map: &[u8],
-    store: &mut [u8],
-    image: &[u8],
-    state: State,
-    heard: Heard,
-) -> Stepped
+pub fn step(map: &[u8], store: &mut [u8], image: &[u8], state: State, heard: Heard) -> Stepped
     ensures { λ r. ⌜ Gives r (now (store .exit)) (stepOf (now (map .entry)) (now (store .entry)) (now (image .entry)) state heard) ⌝ }
 {
     let number = step_number(map, store, image, state, heard.frame);

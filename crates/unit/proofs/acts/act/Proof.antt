@@ -120,17 +120,17 @@ read-at-requires c κs = search needs
 -- src/acts.rt:86:1
 returns : tie.Need-returns
 unfolding done
-returns c = rw (c@enum-told .given .1) (record { answer = cc; store = refl })
+returns c = rw (c .before .enum-told .given .1) (record { answer = cc; store = refl })
 
 -- src/acts.rt:86:1
 returns-2 : tie.Need-returns-2
 unfolding done
-returns-2 c = rw (c@enum-told2 .given .1) (record { answer = cc; store = refl })
+returns-2 c = rw (c .before .before .before .enum-told2 .given .1) (record { answer = cc; store = refl })
 
 -- src/acts.rt:86:1
 returns-3 : tie.Need-returns-3
 unfolding done
-returns-3 c = rw (c@enum-told3 .given .1) (record { answer = cc; store = refl })
+returns-3 c = rw (c .before .before .before .enum-told3 .given .1) (record { answer = cc; store = refl })
 
 -- src/acts.rt:86:1
 same-length : tie.Need-same-length
@@ -139,22 +139,22 @@ same-length c = search needs
 -- src/acts.rt:86:1
 returns-4 : tie.Need-returns-4
 unfolding done
-returns-4 c = rw (c@due .given .1) (record { answer = c@quiet4 .ensures; store = c@fill-store .ensures })
+returns-4 c = rw (c .before .before .before .before .before .before .due .given .1) (record { answer = c .quiet4 .ensures; store = c .before .before .before .fill-store .ensures })
 
 -- src/acts.rt:86:1
 returns-5 : tie.Need-returns-5
 unfolding done
-returns-5 c = rw (c@due2 .given .1) (record { answer = cc; store = refl })
+returns-5 c = rw (c .before .before .before .due2 .given .1) (record { answer = cc; store = refl })
 
 -- src/acts.rt:86:1
 returns-6 : tie.Need-returns-6
 unfolding done
-returns-6 c = rw (c@due3 .given .1) (record { answer = cc; store = refl })
+returns-6 c = rw (c .before .before .before .due3 .given .1) (record { answer = cc; store = refl })
 
 -- src/acts.rt:86:1
 returns-7 : tie.Need-returns-7
 unfolding done
-returns-7 c = rw (c@due4 .given .1) (record { answer = c@answering .ensures; store = refl })
+returns-7 c = rw (c .before .before .due4 .given .1) (record { answer = c .answering .ensures; store = refl })
 
 -- src/acts.rt:86:1
 same-length-2 : tie.Need-same-length-2
@@ -163,7 +163,7 @@ same-length-2 c = search needs
 -- src/acts.rt:86:1
 returns-8 : tie.Need-returns-8
 unfolding done
-returns-8 c = rw (c@due5 .given .1) (c@write-at .ensures)
+returns-8 c = rw (c .before .before .before .before .before .due5 .given .1) (c .before .before .write-at .ensures)
 
 -- src/acts.rt:86:1
 same-length-3 : tie.Need-same-length-3
@@ -172,7 +172,7 @@ same-length-3 c = search needs
 -- src/acts.rt:86:1
 returns-9 : tie.Need-returns-9
 unfolding done
-returns-9 c = rw (c@due6 .given .1) (record { answer = c@read-at .ensures; store = refl })
+returns-9 c = rw (c .before .before .before .due6 .given .1) (record { answer = c .read-at .ensures; store = refl })
 
 pub act-spec : {M : Type 1} → statement M
 act-spec =

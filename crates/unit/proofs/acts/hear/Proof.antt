@@ -28,7 +28,7 @@ with-waiting-requires c κs = search needs
 -- src/acts.rt:34:9
 returns : tie.Need-returns
 unfolding hearing
-returns c = rw (c@if1 .taken) (cc)
+returns c = rw (c .before .before .before .if1 .taken) (cc)
 
 -- src/acts.rt:36:5
 with-waiting-requires-2 : tie.Need-with-waiting-requires-2
@@ -37,7 +37,7 @@ with-waiting-requires-2 c κs = search needs
 -- src/acts.rt:29:1
 returns-2 : tie.Need-returns-2
 unfolding hearing
-returns-2 c = rw (c@if1 .left) (cc)
+returns-2 c = rw (c .before .if1 .left) (cc)
 
 pub hear-spec : {M : Type 1} → statement M
 hear-spec =

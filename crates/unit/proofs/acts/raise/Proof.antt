@@ -19,7 +19,7 @@ with-registers-requires c κs = search needs
 -- src/acts.rt:45:9
 returns : tie.Need-returns
 unfolding raised
-returns c = rw (eq-eqb _ _ (c@if1 .taken)) (cc)
+returns c = rw (eq-eqb _ _ (c .before .before .if1 .taken)) (cc)
 
 -- src/acts.rt:47:50
 add-with-dtr : tie.Need-add-with-dtr
@@ -36,7 +36,7 @@ with-registers-requires-2 c κs = search needs
 -- src/acts.rt:40:1
 returns-2 : tie.Need-returns-2
 unfolding raised
-returns-2 c = rw (ne-eqb _ _ (c@if1 .left)) (cc)
+returns-2 c = rw (ne-eqb _ _ (c .before .before .if1 .left)) (cc)
 
 pub raise-spec : {M : Type 1} → statement M
 raise-spec =

@@ -28,7 +28,7 @@ answering-requires c κs = search needs
 -- src/acts.rt:75:1
 returns : tie.Need-returns
 unfolding readBy
-returns c = rw (← c@read-byte .ensures) (cc)
+returns c = rw (← c .before .before .before .before .read-byte .ensures) (cc)
 
 pub read-at-spec : {M : Type 1} → statement M
 read-at-spec =

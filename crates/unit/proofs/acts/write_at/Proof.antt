@@ -32,7 +32,7 @@ same-length c = search needs
 -- src/acts.rt:51:1
 returns : tie.Need-returns
 unfolding written
-returns c = record { answer = rw (← c@write-byte .ensures .answer) (cc); store = c@write-byte .ensures .store }
+returns c = record { answer = rw (← c .before .before .before .before .before .before .before .write-byte .ensures .answer) (cc); store = c .before .before .before .before .before .before .before .write-byte .ensures .store }
 
 pub write-at-spec : {M : Type 1} → statement M
 write-at-spec =

@@ -39,7 +39,7 @@ quiet-requires c κs = search needs
 -- src/calls.rt:38:9
 returns : tie.Need-returns
 unfolding frameOf dueOf meaningOf dueBy done
-returns c = rw (← c@read .ensures, c@enum-told .given .1) (record { answer = cc; store = refl })
+returns c = rw (← c .before .before .before .before .read .ensures, c .before .before .enum-told .given .1) (record { answer = cc; store = refl })
 
 -- src/calls.rt:41:9
 message-meaning-requires : tie.Need-message-meaning-requires
@@ -47,7 +47,7 @@ message-meaning-requires c κs = search needs
 
 -- src/calls.rt:42:9
 due-by-requires : tie.Need-due-by-requires
-due-by-requires c κs = placed-ordered _ _ (c@pre .0)
+due-by-requires c κs = placed-ordered _ _ (c .before .before .before .before .before .before .before .before .before .pre .0)
 
 -- src/calls.rt:43:28
 closes-requires : tie.Need-closes-requires
@@ -68,7 +68,7 @@ same-length c = search needs
 -- src/calls.rt:27:1
 returns-2 : tie.Need-returns-2
 unfolding frameOf dueOf meaningOf
-returns-2 c = rw (← c@read .ensures, c@message .given .1, ← c@message-meaning .ensures, ← c@closes .ensures, ← c@due-by .ensures, ← c@hear2 .ensures) (c@act .ensures)
+returns-2 c = rw (← c .before .before .before .before .before .before .before .before .before .before .before .before .read .ensures, c .before .before .before .before .before .before .before .before .before .before .message .given .1, ← c .before .before .before .before .before .before .before .message-meaning .ensures, ← c .before .before .before .before .before .closes .ensures, ← c .before .before .before .before .before .before .due-by .ensures, ← c .before .before .before .before .hear2 .ensures) (c .before .before .act .ensures)
 
 pub frame-step-spec : {M : Type 1} → statement M
 frame-step-spec =

@@ -14,19 +14,19 @@ check-requires c κs = search needs
 
 -- src/calls.rt:62:9
 returns : tie.Need-returns
-returns c = power-first _ _ _ _ _ (c@check .ensures) (c@if1 .taken)
+returns c = power-first _ _ _ _ _ (c .before .check .ensures) (c .if1 .taken)
 
 -- src/calls.rt:64:8
 state-holds-requires : tie.Need-state-holds-requires
-state-holds-requires c κs = checked _ _ _ (sym (c@check .ensures) ∙ c@if1 .left) .in-place
+state-holds-requires c κs = checked _ _ _ (sym (c .before .check .ensures) ∙ c .if1 .left) .in-place
 
 -- src/calls.rt:57:1
 returns-2 : tie.Need-returns-2
-returns-2 c = rw (power-then _ _ _ _ _ (c@check .ensures) (c@if1 .left), ← c@state-holds .ensures, c@if2 .taken)
+returns-2 c = rw (power-then _ _ _ _ _ (c .before .before .before .check .ensures) (c .before .before .if1 .left), ← c .before .state-holds .ensures, c .if2 .taken)
 
 -- src/calls.rt:57:1
 returns-3 : tie.Need-returns-3
-returns-3 c = rw (power-then _ _ _ _ _ (c@check .ensures) (c@if1 .left), ← c@state-holds .ensures, c@if2 .left)
+returns-3 c = rw (power-then _ _ _ _ _ (c .before .before .before .check .ensures) (c .before .before .if1 .left), ← c .before .state-holds .ensures, c .if2 .left)
 
 pub power-number-spec : {M : Type 1} → statement M
 power-number-spec =

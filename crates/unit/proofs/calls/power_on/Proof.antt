@@ -26,11 +26,11 @@ same-length c = search needs
 -- src/calls.rt:111:9
 returns : tie.Need-returns
 unfolding powerOnOf
-returns c = rw (← c@power-number .ensures, ne-eqb _ _ (c@if1 .taken)) (record { answer = c@refusing .ensures; store = refl })
+returns c = rw (← c .before .before .power-number .ensures, ne-eqb _ _ (c .before .if1 .taken)) (record { answer = c .refusing .ensures; store = refl })
 
 -- src/calls.rt:114:5
 power-step-requires : tie.Need-power-step-requires
-power-step-requires c κs = let stands = powered _ _ _ _ (sym (c@power-number .ensures) ∙ c@if1 .left) in
+power-step-requires c κs = let stands = powered _ _ _ _ (sym (c .before .before .before .power-number .ensures) ∙ c .before .before .if1 .left) in
     (stands .in-place, stands .as-long)
 
 -- src/calls.rt:106:1
@@ -40,7 +40,7 @@ same-length-2 c = search needs
 -- src/calls.rt:106:1
 returns-2 : tie.Need-returns-2
 unfolding powerOnOf
-returns-2 c = rw (← c@power-number .ensures, eq-eqb _ _ (c@if1 .left)) (c@power-step .ensures)
+returns-2 c = rw (← c .before .before .before .before .before .before .power-number .ensures, eq-eqb _ _ (c .before .before .before .before .before .if1 .left)) (c .before .before .power-step .ensures)
 
 pub power-on-spec : {M : Type 1} → statement M
 power-on-spec =

@@ -27,7 +27,7 @@ same-length c = search needs
 -- src/calls.rt:48:1
 returns : tie.Need-returns
 unfolding powerOf
-returns c = record { answer = cc; store = c@fill-store .ensures }
+returns c = record { answer = cc; store = c .before .before .before .before .fill-store .ensures }
 
 pub power-step-spec : {M : Type 1} → statement M
 power-step-spec =

@@ -31,11 +31,11 @@ same-length c = search needs
 -- src/calls.rt:127:9
 returns : tie.Need-returns
 unfolding startOf
-returns c = rw (← c@start-number .ensures, ne-eqb _ _ (c@if1 .taken)) (record { answer = cc; store = refl })
+returns c = rw (← c .before .before .before .start-number .ensures, ne-eqb _ _ (c .before .before .if1 .taken)) (record { answer = cc; store = refl })
 
 -- src/calls.rt:129:5
 power-step-requires : tie.Need-power-step-requires
-power-step-requires c κs = let stands = started _ _ _ _ (sym (c@start-number .ensures) ∙ c@if1 .left) in
+power-step-requires c κs = let stands = started _ _ _ _ (sym (c .before .before .start-number .ensures) ∙ c .before .if1 .left) in
     (stands .in-place, stands .as-long)
 
 -- src/calls.rt:118:1
@@ -45,7 +45,7 @@ same-length-2 c = search needs
 -- src/calls.rt:118:1
 returns-2 : tie.Need-returns-2
 unfolding startOf
-returns-2 c = rw (← c@start-number .ensures, eq-eqb _ _ (c@if1 .left)) (c@power-step .ensures)
+returns-2 c = rw (← c .before .before .before .before .before .start-number .ensures, eq-eqb _ _ (c .before .before .before .before .if1 .left)) (c .before .before .power-step .ensures)
 
 pub start-spec : {M : Type 1} → statement M
 start-spec =

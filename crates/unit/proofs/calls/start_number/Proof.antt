@@ -13,7 +13,7 @@ check-requires c κs = search needs
 
 -- src/calls.rt:84:9
 returns : tie.Need-returns
-returns c = start-first _ _ _ _ _ (c@check .ensures) (c@if1 .taken)
+returns c = start-first _ _ _ _ _ (c .before .check .ensures) (c .if1 .taken)
 
 -- src/calls.rt:86:8
 address-holds-requires : tie.Need-address-holds-requires
@@ -21,11 +21,11 @@ address-holds-requires c κs = search needs
 
 -- src/calls.rt:79:1
 returns-2 : tie.Need-returns-2
-returns-2 c = rw (start-then _ _ _ _ _ (c@check .ensures) (c@if1 .left), ← c@address-holds .ensures, c@if2 .taken)
+returns-2 c = rw (start-then _ _ _ _ _ (c .before .before .before .check .ensures) (c .before .before .if1 .left), ← c .before .address-holds .ensures, c .if2 .taken)
 
 -- src/calls.rt:79:1
 returns-3 : tie.Need-returns-3
-returns-3 c = rw (start-then _ _ _ _ _ (c@check .ensures) (c@if1 .left), ← c@address-holds .ensures, c@if2 .left)
+returns-3 c = rw (start-then _ _ _ _ _ (c .before .before .before .check .ensures) (c .before .before .if1 .left), ← c .before .address-holds .ensures, c .if2 .left)
 
 pub start-number-spec : {M : Type 1} → statement M
 start-number-spec =

@@ -26,11 +26,11 @@ same-length c = search needs
 -- src/calls.rt:100:9
 returns : tie.Need-returns
 unfolding stepOf
-returns c = rw (← c@step-number .ensures, ne-eqb _ _ (c@if1 .taken)) (record { answer = c@refusing .ensures; store = refl })
+returns c = rw (← c .before .before .step-number .ensures, ne-eqb _ _ (c .before .if1 .taken)) (record { answer = c .refusing .ensures; store = refl })
 
 -- src/calls.rt:102:5
 frame-step-requires : tie.Need-frame-step-requires
-frame-step-requires c κs = let stands = stepped _ _ _ _ _ (sym (c@step-number .ensures) ∙ c@if1 .left) in
+frame-step-requires c κs = let stands = stepped _ _ _ _ _ (sym (c .before .before .step-number .ensures) ∙ c .before .if1 .left) in
     (stands .in-place, stands .as-long)
 
 -- src/calls.rt:89:1
@@ -40,7 +40,7 @@ same-length-2 c = search needs
 -- src/calls.rt:89:1
 returns-2 : tie.Need-returns-2
 unfolding stepOf
-returns-2 c = rw (← c@step-number .ensures, eq-eqb _ _ (c@if1 .left)) (c@frame-step .ensures)
+returns-2 c = rw (← c .before .before .before .before .before .step-number .ensures, eq-eqb _ _ (c .before .before .before .before .if1 .left)) (c .before .before .frame-step .ensures)
 
 pub step-spec : {M : Type 1} → statement M
 step-spec =

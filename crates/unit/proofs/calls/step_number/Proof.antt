@@ -13,15 +13,15 @@ power-number-requires c κs = search needs
 
 -- src/calls.rt:73:9
 returns : tie.Need-returns
-returns c = step-first _ _ _ _ _ _ (c@power-number .ensures) (c@if1 .taken)
+returns c = step-first _ _ _ _ _ _ (c .before .power-number .ensures) (c .if1 .taken)
 
 -- src/calls.rt:68:1
 returns-2 : tie.Need-returns-2
-returns-2 c = rw (step-then _ _ _ _ _ _ (c@power-number .ensures) (c@if1 .left), lt-ltb _ _ (c@if2 .taken))
+returns-2 c = rw (step-then _ _ _ _ _ _ (c .before .before .power-number .ensures) (c .before .if1 .left), lt-ltb _ _ (c .if2 .taken))
 
 -- src/calls.rt:68:1
 returns-3 : tie.Need-returns-3
-returns-3 c = rw (step-then _ _ _ _ _ _ (c@power-number .ensures) (c@if1 .left), le-ltb _ _ (c@if2 .left))
+returns-3 c = rw (step-then _ _ _ _ _ _ (c .before .before .power-number .ensures) (c .before .if1 .left), le-ltb _ _ (c .if2 .left))
 
 pub step-number-spec : {M : Type 1} → statement M
 step-number-spec = tie.close (tie.spec power-number-requires returns returns-2 returns-3)
