@@ -4,6 +4,8 @@ pub mod Trailing
 pub mod Table
 pub mod Items
 pub mod Parts
+pub mod Copies
+pub mod Choosing
 pub mod Numbers
 pub mod Settled
 pub mod Counts

@@ -1,0 +1,16 @@
+-- A command is for the unit exactly if its address is.
+-- Assumes nothing.
+use mathlib.Core.Path.{_≡_, refl}
+use Prim.Native.Nat.{ℕ, _/_, _%_, _^_}
+use borrow.Author.Tests.{eqb-true, eq-eqb}
+use Rattle.hearing.specs.Promises.{ForTheUnit}
+use Rattle.hearing.specs.declared.rooms.Who.{Who}
+
+pub for-the-unit : (who : Who) → ForTheUnit who
+for-the-unit who =
+    record {
+      short = λ a. (eqb-true (who .address) a, eq-eqb (who .address) a);
+      group = λ g. (eqb-true (who .groups / 2 ^ g % 2) 1, eq-eqb (who .groups / 2 ^ g % 2) 1);
+      unaddressed = (eqb-true (who .address) 255, eq-eqb (who .address) 255);
+      broadcast = refl;
+    }

@@ -1,0 +1,5 @@
+pub mod Codes
+pub mod Foreign
+pub mod Closing
+pub mod PairRule
+pub mod Addressing

@@ -1,0 +1,55 @@
+-- Paper 01's number and values of each case: the bytes of a listed command. Paper 01, "Commands obeyed".
+-- Assumes nothing.
+use Prim.Native.Nat.{ℕ, _+_, _*_}
+use mathlib.Core.Path.{_≡_}
+use mathlib.Core.Bool.{true, false}
+use Rattle.laws.specs.Bits.{bits}
+use Rattle.hearing.specs.declared.meaning.Once.{Once}
+use Rattle.hearing.specs.declared.meaning.Once.the-variants.{QueryMissingShortAddress, QueryContentDtr, QueryDeviceGroups}
+use Rattle.hearing.specs.declared.meaning.Once.the-variants.{ReadMemoryLocation, WriteMemoryLocation, DirectWriteMemory}
+use Rattle.hearing.specs.declared.meaning.Once.the-variants.{SetDtr, SetDtrs}
+use Rattle.hearing.specs.declared.meaning.Twice.{Twice}
+use Rattle.hearing.specs.declared.meaning.Twice.the-variants.{ResetMemoryBank, SetShortAddress, EnableWriteMemory}
+use Rattle.hearing.specs.declared.meaning.Twice.the-variants.{AddToDeviceGroups, RemoveFromDeviceGroups}
+use Rattle.hearing.specs.declared.meaning.Meaning.{Meaning}
+use Rattle.hearing.specs.declared.meaning.Meaning.the-variants.{Foreign, NotObeyed, AtOnce, NeedsPair}
+
+-- with instance byte 0xFE an opcode, behind an address byte; special all three bytes
+pub data Code : Type 0 where
+  none : Code
+  device : (opcode : ℕ) → Code
+  special : (address first second : ℕ) → Code
+
+-- ADD TO and REMOVE FROM DEVICE GROUPS: half 0 is groups 0-15, half 1 is 16-31
+abbrev pub twiceCode : Twice → Code
+twiceCode ResetMemoryBank = device 0x11
+twiceCode SetShortAddress = device 0x14
+twiceCode EnableWriteMemory = device 0x15
+twiceCode (AddToDeviceGroups half) = device (0x19 + half)
+twiceCode (RemoveFromDeviceGroups half) = device (0x1B + half)
+
+-- QUERY CONTENT DTRk; QUERY DEVICE GROUPS, byte k (low byte first); WRITE MEMORY LOCATION, replying or without reply;
+-- DIRECT WRITE MEMORY (offset, data); DTRk; DTR(k+1) then DTRk
+abbrev pub onceCode : Once → Code
+onceCode QueryMissingShortAddress = device 0x33
+onceCode (QueryContentDtr k) = device (0x36 + k)
+onceCode ReadMemoryLocation = device 0x3C
+onceCode (QueryDeviceGroups k) = device (0x41 + k)
+onceCode (WriteMemoryLocation byte true) = special 0xC1 0x20 byte
+onceCode (WriteMemoryLocation byte false) = special 0xC1 0x21 byte
+onceCode (DirectWriteMemory offset byte) = special 0xC5 offset byte
+onceCode (SetDtr k byte) = special 0xC1 (0x30 + k) byte
+onceCode (SetDtrs k high low) = special (0xC7 + 2 * k) high low
+
+-- what is foreign, or not obeyed, is no listed command
+abbrev pub codeOf : Meaning → Code
+codeOf Foreign = none
+codeOf NotObeyed = none
+codeOf (AtOnce once) = onceCode once
+codeOf (NeedsPair twice) = twiceCode twice
+
+-- the code stands in the frame: address byte, instance or first byte, opcode or second byte
+abbrev pub Stands : Code → ℕ → Type 0
+Stands none f = Unit
+Stands (device opcode) f = (bits f 15 8 ≡ 0xFE) × (bits f 7 0 ≡ opcode)
+Stands (special address first second) f = (bits f 23 16 ≡ address) × (bits f 15 8 ≡ first) × (bits f 7 0 ≡ second)

@@ -1,0 +1,26 @@
+-- The pair rule. Paper 01, "State and clock".
+-- Assumes nothing.
+use Prim.Native.Nat.{ℕ, _+_, _-_, _%_, _^_}
+use mathlib.Core.Bool.{Bool, true, false, _&&_}
+use lib.Dec.{eqb, leb}
+use Rattle.hearing.specs.declared.rooms.Heard.{Heard}
+use Rattle.hearing.specs.declared.rooms.Waiting.{Waiting}
+
+-- the clock counts milliseconds in 32 bits and runs over: second minus first, modulo 4,294,967,296
+unfoldable pub passed : (first second : ℕ) → ℕ
+passed first second = (second + 2 ^ 32 - first) % 2 ^ 32
+
+-- two frames are a pair if equal and second minus first is at most 100
+unfoldable pub inTime : (first second : Heard) → Bool
+inTime first second = eqb (first .frame) (second .frame) && leb (passed (first .clock) (second .clock)) 100
+
+-- the frame that waits was heard in direct succession
+unfoldable pub completes : Waiting → Heard → Bool
+completes waiting heard = waiting .held && inTime (record { clock = waiting .clock; frame = waiting .frame }) heard
+
+-- none waits, and whatever is not in use is zero
+abbrev pub noneWaits : Waiting
+noneWaits = record { held = false; frame = 0; clock = 0 }
+
+abbrev pub waitsFor : Heard → Waiting
+waitsFor heard = record { held = true; frame = heard .frame; clock = heard .clock }

@@ -1,0 +1,73 @@
+-- What is proved about the definitions. The proofs stand in proofs/, under the same names.
+-- Assumes nothing.
+use mathlib.Core.Path.{_≡_}
+use mathlib.Core.Logic.{_↔_}
+use mathlib.Core.Bool.{Bool, true, false}
+use mathlib.Core.List.{List, [], _∷_, _++_}
+use Prim.Native.Nat.{ℕ, _/_, _%_, _^_}
+use Rattle.laws.specs.Bits.{bit}
+use Rattle.laws.specs.Choice.{if_then_else_}
+use Rattle.frames.specs.Read.{readOf}
+use Rattle.frames.specs.declared.message.Address.{Address}
+use Rattle.frames.specs.declared.message.Reading.{Reading}
+use Rattle.hearing.specs.Codes.{Code, device, special, codeOf, Stands}
+use Rattle.hearing.specs.Meaning.{Row, isFor, deviceRows, firstRows, otherRows, meaningOf, closes}
+use Rattle.hearing.specs.Pairs.{passed, completes, noneWaits, waitsFor}
+use Rattle.hearing.specs.declared.rooms.Heard.{Heard}
+use Rattle.hearing.specs.declared.rooms.Who.{Who}
+use Rattle.hearing.specs.declared.meaning.Meaning.{Meaning}
+
+-- a command is for the unit exactly if its short address or group matches, if broadcast,
+-- if broadcast unaddressed while its address is 255
+pub record ForTheUnit (who : Who) : Type 0 where
+  pub short : (a : ℕ) → isFor who (Address.Short a) ≡ true ↔ who .address ≡ a
+  pub group : (g : ℕ) → isFor who (Address.Group g) ≡ true ↔ who .groups / 2 ^ g % 2 ≡ 1
+  pub unaddressed : isFor who Address.Unaddressed ≡ true ↔ who .address ≡ 255
+  pub broadcast : isFor who Address.Broadcast ≡ true
+
+-- the bytes of every frame that means a listed command are those of paper 01
+abbrev pub CodeStands : Type 0
+CodeStands = (who : Who) (f : ℕ) → Stands (codeOf (meaningOf who f)) f
+
+-- an event and a reserved frame are foreign for every unit
+abbrev pub EventForeign : Type 0
+EventForeign = (who : Who) (f : ℕ) → bit f 16 ≡ 0 → meaningOf who f ≡ Meaning.Foreign
+
+abbrev pub ReservedForeign : Type 0
+ReservedForeign = (who : Who) (f number : ℕ) → readOf f ≡ Reading.Refused number → meaningOf who f ≡ Meaning.Foreign
+
+-- what is foreign or not obeyed closes nothing
+abbrev pub ClosesNothing : Type 0
+ClosesNothing = (closes Meaning.Foreign ≡ false) × (closes Meaning.NotObeyed ≡ false)
+
+-- the codes of those rows that keep write-enable
+abbrev pub keepers : List Row → List Code
+keepers [] = []
+keepers (r ∷ rs) = if closes (r .means) then keepers rs else codeOf (r .means) ∷ keepers rs
+
+-- write-enable keeps through the three writes, the five DTR commands and QUERY CONTENT DTR0..2, and through no other
+abbrev pub ElevenKeep : Type 0
+ElevenKeep =
+    (first second : ℕ) →
+    keepers (deviceRows ++ firstRows second ++ otherRows first second)
+    ≡ device 0x36 ∷ device 0x37 ∷ device 0x38
+    ∷ special 0xC1 0x20 second ∷ special 0xC1 0x21 second
+    ∷ special 0xC1 0x30 second ∷ special 0xC1 0x31 second ∷ special 0xC1 0x32 second
+    ∷ special 0xC5 first second ∷ special 0xC7 first second ∷ special 0xC9 first second
+    ∷ []
+
+-- the frame, heard at this clock
+abbrev pub at : ℕ → ℕ → Heard
+at clock frame = record { clock = clock; frame = frame }
+
+-- the bench sheet's clocks: 0 and 100 a pair, 101 none; 4,294,967,250 then 50: difference 96, a pair
+pub record PairClocks (frame : ℕ) : Type 0 where
+  pub in-time : completes (waitsFor (at 0 frame)) (at 100 frame) ≡ true
+  pub too-late : completes (waitsFor (at 0 frame)) (at 101 frame) ≡ false
+  pub difference : passed 4294967250 50 ≡ 96
+  pub run-over : completes (waitsFor (at 4294967250 frame)) (at 50 frame) ≡ true
+
+-- where none waits, none is completed; and by another frame neither
+pub record NoPair (heard : Heard) : Type 0 where
+  pub none : completes noneWaits heard ≡ false
+  pub other : (first : Heard) → (first .frame ≡ heard .frame → ⊥) → completes (waitsFor first) heard ≡ false

@@ -1,0 +1,10 @@
+pub mod Zeros
+pub mod Reaching
+pub mod Writes
+pub mod Run
+pub mod StagedRoom
+pub mod Changes
+pub mod LatchRoom
+pub mod Fills
+pub mod Locks
+pub mod Filling

@@ -1,0 +1,6 @@
+pub mod Reach
+pub mod Staged
+pub mod Latched
+pub mod Filled
+pub mod Rooms
+pub mod Promises

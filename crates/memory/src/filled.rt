@@ -1,0 +1,88 @@
+// RESET MEMORY BANK and power-on, for the store: which values are put anew, and with what.
+ghost use mathlib.Core.Path.{_≡_};
+ghost use mathlib.Core.Bool.{true};
+ghost use Prim.Native.Nat.{_+_, _-_, _/_, _<_, _≤_};
+ghost use lib.ListN.{length};
+ghost use Rattle.laws.specs.Lists.{items};
+ghost use Rattle.banks.specs.Map.{recordAt, recordsOf, placesEnd};
+ghost use Rattle.banks.specs.Rules.{placed, isLock};
+ghost use Rattle.banks.specs.Lookup.{putValue};
+ghost use Rattle.memory.specs.Filled.{selects, chosen, fresh, filledBy, filledOf};
+use crate::parts::put_value;
+use banks::Record;
+use banks::is_writable;
+use banks::lock_byte;
+use banks::places_end;
+use banks::record_at;
+use banks::records;
+
+pub enum Filling {
+    PowerOn,
+    Reset(u8),
+}
+
+// The bank is one that a reset with this DTR0 selects.
+fn selects_bank(dtr0: u8, bank: u8) -> bool
+    ensures { λ b. ⌜ b ≡ selects dtr0 bank ⌝ }
+{
+    if dtr0 == 0 { 1 <= bank } else { bank == dtr0 }
+}
+
+// Internal: the value is one that takes its fresh bytes.
+fn is_chosen(map: &[u8], store: &[u8], filling: Filling, r: Record) -> bool
+    requires { ⌜ placed (now map) (length (now store)) ≡ true ⌝ }
+    ensures { λ b. ⌜ b ≡ chosen (recordsOf (now (map .entry))) (now (store .entry)) filling r ⌝ }
+{
+    match filling {
+        Filling::PowerOn => r.kind == 2,
+        Filling::Reset(dtr0) => {
+            let writes = is_writable(r);
+            let selected = selects_bank(dtr0, r.bank);
+            let lock = lock_byte(map, store, r.bank);
+            writes & (selected & (lock == 0x55))
+        }
+    }
+}
+
+fn is_lock(r: Record) -> bool
+    ensures { λ b. ⌜ b ≡ isLock r ⌝ }
+{
+    (r.first == 0x02) & (r.width == 1) & (r.kind == 2) & (r.lockable == 0)
+}
+
+// Internal: the value takes its fresh bytes.
+fn freshen(store: &mut [u8], image: &[u8], r: Record)
+    requires { ⌜ (1 ≤ r .width) × (placesEnd r ≤ length (now store)) × (placesEnd r ≤ length (now image)) ⌝ }
+    ensures { λ _. ⌜ now (store .exit) ≡ putValue r (fresh (now (image .entry)) r) (now (store .entry)) ⌝ }
+{
+    let at = r.offset as usize;
+    if is_lock(r) {
+        store[at] = 0xFF;
+        return;
+    }
+    let end = places_end(r);
+    put_value(store, r, &image[at..end]);
+}
+
+// Internal: the records from number i on. Which are chosen is decided on the way down, before anything is stored.
+fn fill_from(map: &[u8], store: &mut [u8], image: &[u8], filling: Filling, i: usize)
+    requires { ⌜ (placed (now map) (length (now store)) ≡ true) × (length (now image) ≡ length (now store)) ⌝ }
+    ensures { λ _. ⌜ now (store .exit) ≡ filledBy (chosen (recordsOf (now (map .entry))) (now (store .entry)) filling) (now (image .entry)) (now (store .entry)) (items (recordAt (now (map .entry))) i (length (now (map .entry)) / 8 - i)) ⌝ }
+{
+    if i < records(map) {
+        let r = record_at(map, i);
+        let such = is_chosen(map, store, filling, r);
+        fill_from(map, store, image, filling, i + 1);
+        if such {
+            freshen(store, image, r);
+        }
+    }
+}
+
+// Internal: each value that is chosen takes its fresh bytes. Map, store and image have passed 7 to 10.
+pub fn fill_store(map: &[u8], store: &mut [u8], image: &[u8], filling: Filling)
+    requires { ⌜ (placed (now map) (length (now store)) ≡ true) × (length (now image) ≡ length (now store)) ⌝ }
+    ensures { λ _. ⌜ now (store .exit) ≡ filledOf (recordsOf (now (map .entry))) (now (store .entry)) (now (image .entry)) filling ⌝ }
+{
+    fill_from(map, store, image, filling, 0);
+}

@@ -1,0 +1,19 @@
+// One value at a time: an executed write with staging, READ with the latch, reset and power-on of the store.
+mod parts; // a value's part of the store
+mod staged; // an executed write
+mod latched; // READ and the latch
+mod filled; // reset and power-on
+mod rooms; // rules of a state
+
+pub use filled::Filling;
+pub use filled::fill_store;
+pub use latched::Latch;
+pub use latched::Shown;
+pub use latched::none_latched;
+pub use latched::read_byte;
+pub use rooms::latch_holds;
+pub use rooms::staged_holds;
+pub use staged::Staged;
+pub use staged::Wrote;
+pub use staged::none_staged;
+pub use staged::write_byte;

@@ -1,0 +1,72 @@
+-- What each frame leaves alone, by what it makes happen.
+-- Assumes nothing.
+use Prim.Native.Nat.{ℕ}
+use mathlib.Core.Path.{_≡_, refl, ap, _∙_}
+use mathlib.Core.Bool.{Bool, true, false}
+use mathlib.Core.List.{List}
+use borrow.Author.Tests.{eq-eqb, ne-eqb}
+use Rattle.laws.specs.Outcome.{Outcome}
+use Rattle.banks.specs.declared.record.Record.{Record}
+use Rattle.hearing.specs.declared.rooms.Heard.{Heard}
+use Rattle.unit.specs.State.{withWho, withRegisters, withWaiting, withDoor, withLatch}
+use Rattle.unit.specs.Due.{withDtr}
+use Rattle.unit.specs.Step.{quiet, answering, hearing, raised, written, readBy, done, frameOf}
+use Rattle.unit.specs.Leaving.{Dtr0Rises, Leaves, Frames-leave}
+use Rattle.unit.specs.declared.state.Registers.{Registers}
+use Rattle.unit.specs.declared.state.State.{State}
+use Rattle.unit.specs.declared.state.Stepped.{Stepped}
+use Rattle.unit.proofs.Dues.{Cases, by-due}
+use Rattle.unit.specs.declared.due.Due.{Due}
+use Rattle.unit.specs.declared.due.Due.the-variants.{Nothing, Answers}
+
+-- the setters of the rooms
+rooms : Unit {0}
+unfolding withDtr withWho withRegisters withWaiting withDoor withLatch
+rooms = tt
+
+module _ (rs : List Record) (store image : List ℕ) (s : State) (heard : Heard) where
+  -- a frame that closes write-enable or not, and what is due then
+  unfoldable Left : Bool → Due → Type 0
+  Left closing due = Leaves s store heard closing (done rs store image (hearing s closing) heard due) due
+
+  nothing : (closing : Bool) → Left closing Nothing
+  unfolding Left hearing done quiet withWaiting withDoor
+  nothing true = (refl, refl, refl, refl, refl, refl, refl)
+  nothing false = (refl, refl, refl, refl, refl, refl, refl)
+
+  answers : (closing : Bool) (byte : ℕ) → Left closing (Answers byte)
+  unfolding Left hearing done answering withWaiting withDoor
+  answers true byte = (refl, refl, refl, refl, refl, refl)
+  answers false byte = (refl, refl, refl, refl, refl, refl)
+
+  -- DTR0 after a write or a read at the location, whatever else they change
+  rises : (location : ℕ) (o : Outcome Stepped) → o .answer .state .registers ≡ raised s location .registers
+      → Dtr0Rises location s o
+  unfolding raised withDtr withRegisters
+  rises location o e =
+      record {
+        rises = λ n. ap (λ (d : Registers). d .dtr0) e ∙ rw (ne-eqb location 0xFF n);
+        stops = λ q. ap (λ (d : Registers). d .dtr0) e ∙ rw (eq-eqb location 0xFF q);
+        dtr1 = ap (λ (d : Registers). d .dtr1) e;
+        dtr2 = ap (λ (d : Registers). d .dtr2) e;
+      }
+
+  all-leave : Cases rs s heard Left
+  unfolding Left hearing done quiet written readBy answering raised rooms
+  all-leave =
+      record {
+        nothing = nothing;
+        waits = λ e. (refl, refl, refl, refl, refl, refl, refl);
+        opens = (refl, refl, refl, refl, refl, refl, refl);
+        resets = λ dtr0. (refl, refl, refl, refl, refl, refl);
+        becomes = λ who a. (refl, refl, refl, refl, refl, refl);
+        loads = λ registers. (refl, refl, refl, refl, refl, refl);
+        answers = answers;
+        writes = λ e bank location byte replying. (refl, rises location _ refl, refl, refl, refl);
+        reads = λ bank location. (refl, rises location _ refl, refl, refl, refl);
+      }
+
+pub frames-leave : Frames-leave
+unfolding frameOf Left
+frames-leave rs store image s heard due e =
+    rw (← e) (by-due rs s heard (Left rs store image s heard) (all-leave rs store image s heard))

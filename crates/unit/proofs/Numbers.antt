@@ -1,0 +1,147 @@
+-- Start, power-on and frame step as calls: settled, numbered exactly, and refused without a trace.
+-- Assumes nothing.
+use Prim.Native.Nat.{ℕ, _<_}
+use mathlib.Core.Path.{_≡_, refl, sym, _∙_}
+use mathlib.Core.Bool.{true}
+use mathlib.Core.List.{List, [], _∷_, _++_}
+use native.Mathlib.Omega.{arith}
+use borrow.Author.Tests.{eq-eqb, ne-eqb}
+use lib.Dec.{ltb}
+use lib.ListN.{length}
+use Rattle.laws.specs.Numbers.{Test, test, firstFailing, numbered}
+use Rattle.laws.specs.Outcome.{Outcome}
+use Rattle.laws.proofs.Numbers.{exactly-if, none-exactly-if}
+use Rattle.laws.proofs.Joined.{joined-none, joined-some}
+use Rattle.laws.proofs.Settled.{settles, settles-both}
+use Rattle.laws.proofs.Tests.{if-eq}
+use Rattle.banks.specs.Map.{recordsOf}
+use Rattle.banks.specs.Rules.{checkTests, checkNumber}
+use Rattle.banks.specs.declared.record.Record.{Record}
+use Rattle.hearing.specs.declared.rooms.Heard.{Heard}
+use Rattle.hearing.specs.declared.rooms.Who.{Who}
+use Rattle.unit.specs.Step.{quiet, answering, refusing, written, readBy, done, frameOf, powerOf, unless}
+use Rattle.unit.specs.Step.{startTests, startNumber, startOf, powerTests, powerNumber, powerOnOf}
+use Rattle.unit.specs.Step.{stepTests, stepNumber, stepOf}
+use Rattle.unit.specs.State.{zeroState}
+use Rattle.unit.specs.Rules.{addressHolds, stateHolds}
+use Rattle.unit.specs.Due.{dueOf}
+use Rattle.unit.specs.Promises.{Tests-in-order}
+use Rattle.unit.specs.Promises.{GivenBy, numberOf, Refuses, Calls-settled, Calls-numbered, Calls-refused}
+use Rattle.unit.specs.Promises.{Calls-accepted}
+use Rattle.unit.specs.declared.state.State.{State}
+use Rattle.unit.specs.declared.state.Stepped.{Stepped}
+use Rattle.unit.specs.declared.due.Due.{Due}
+use Rattle.unit.specs.declared.due.Due.the-variants.{Nothing, Waits, Opens, Resets, Becomes, Loads, Answers}
+use Rattle.unit.specs.declared.due.Due.the-variants.{Writes, Reads}
+
+pub calls-settled : Calls-settled
+calls-settled map store image =
+    record {
+      start = λ who. settles-both (startOf map store image who);
+      power-on = λ s. settles-both (powerOnOf map store image s);
+      step = λ s heard. settles-both (stepOf map store image s heard);
+      start-number = λ who. settles (startNumber map store (length image) who);
+      power-number = λ s. settles (powerNumber map store (length image) s);
+      step-number = λ s frame. settles (stepNumber map store (length image) s frame);
+    }
+
+given-by : (tests : List Test) → numbered tests ≡ true → GivenBy (firstFailing tests) tests
+given-by tests k = record { exactly-if = exactly-if tests; none-exactly-if = none-exactly-if tests k }
+
+-- whatever is due, its reply has number 0
+done-number : (rs : List Record) (store image : List ℕ) (s : State) (heard : Heard) (due : Due)
+    → numberOf (done rs store image s heard due) ≡ 0
+unfolding done quiet answering written readBy
+done-number rs store image s heard Nothing = refl
+done-number rs store image s heard Waits = refl
+done-number rs store image s heard Opens = refl
+done-number rs store image s heard (Resets dtr0) = refl
+done-number rs store image s heard (Becomes who) = refl
+done-number rs store image s heard (Loads registers) = refl
+done-number rs store image s heard (Answers byte) = refl
+done-number rs store image s heard (Writes bank location byte replying) = refl
+done-number rs store image s heard (Reads bank location) = refl
+
+frame-number : (rs : List Record) (store image : List ℕ) (s : State) (heard : Heard)
+    → numberOf (frameOf rs store image s heard) ≡ 0
+unfolding frameOf
+frame-number rs store image s heard = done-number rs store image _ heard (dueOf rs s heard)
+
+module _ (s : State) (store : List ℕ) (o : Outcome Stepped) where
+  accepting : (n : ℕ) → n ≡ 0 → unless n s store o ≡ o
+  accepting n e = rw (eq-eqb n 0 e)
+
+  unless-number : (n : ℕ) → numberOf o ≡ 0 → numberOf (unless n s store o) ≡ n
+  unfolding refusing
+  unless-number n e = if-eq (λ x. numberOf x ≡ n) n 0 (λ z. e ∙ sym z) (λ z. refl)
+
+  unless-refuses : (m n : ℕ) → 0 < n → m ≡ n → Refuses (unless m s store o) n s store
+  unfolding refusing
+  unless-refuses m n h e =
+      rw (ne-eqb m 0 (λ z. omega arith))
+      (record { returns = e; unanswered = refl; no-answer = refl; state-stays = refl; store-stays = refl })
+
+pub calls-accepted : Calls-accepted
+unfolding startOf powerOnOf stepOf
+calls-accepted map store image =
+    record {
+      start = λ who e. accepting zeroState store (powerOf (recordsOf map) store image who) _ e;
+      power-on = λ s e. accepting s store (powerOf (recordsOf map) store image (s .who)) _ e;
+      step = λ s heard e. accepting s store (frameOf (recordsOf map) store image s heard) _ e;
+    }
+
+pub calls-numbered : Calls-numbered
+unfolding startNumber powerNumber stepNumber startOf powerOnOf stepOf powerOf quiet
+calls-numbered map store image =
+    record {
+      start = λ who. given-by (startTests map store (length image) who) refl;
+      power-on = λ s. given-by (powerTests map store (length image) s) refl;
+      step = λ s frame. given-by (stepTests map store (length image) s frame) refl;
+      start-replies = λ who. unless-number zeroState store (powerOf (recordsOf map) store image who) _ refl;
+      power-replies = λ s. unless-number s store (powerOf (recordsOf map) store image (s .who)) _ refl;
+      step-replies = λ s heard.
+          unless-number s store (frameOf (recordsOf map) store image s heard) _
+          (frame-number (recordsOf map) store image s heard);
+    }
+
+-- the tests behind 7 to 11
+abbrev pub startsBehind : Who → List Test
+startsBehind who = test 6 (addressHolds (who .address)) ∷ []
+
+abbrev pub powersBehind : List ℕ → List ℕ → State → List Test
+powersBehind map store s = test 12 (stateHolds (recordsOf map) store s) ∷ []
+
+abbrev pub stepsBehind : List ℕ → List ℕ → State → ℕ → List Test
+stepsBehind map store s frame = test 12 (stateHolds (recordsOf map) store s) ∷ test 1 (ltb frame 16777216) ∷ []
+
+-- 7 to 11 give their number, or the tests behind them do
+module _ (map store : List ℕ) (kept : ℕ) (us : List Test) where
+  checks-first : 0 < checkNumber map store kept
+      → firstFailing (checkTests map store kept ++ us) ≡ checkNumber map store kept
+  unfolding checkNumber
+  checks-first h = joined-some (checkTests map store kept) us (checkNumber map store kept) h refl
+
+  checks-passed : checkNumber map store kept ≡ 0 → firstFailing (checkTests map store kept ++ us) ≡ firstFailing us
+  unfolding checkNumber
+  checks-passed e = joined-none (checkTests map store kept) us refl e
+
+pub tests-in-order : Tests-in-order
+unfolding startNumber powerNumber stepNumber firstFailing
+tests-in-order map store kept =
+    record {
+      start-first = λ who. checks-first map store kept (startsBehind who);
+      power-first = λ s. checks-first map store kept (powersBehind map store s);
+      step-first = λ s frame. checks-first map store kept (stepsBehind map store s frame);
+      start-then = λ who. checks-passed map store kept (startsBehind who);
+      power-then = λ s. checks-passed map store kept (powersBehind map store s);
+      step-then = λ s frame. checks-passed map store kept (stepsBehind map store s frame);
+    }
+
+pub calls-refused : Calls-refused
+unfolding startOf powerOnOf stepOf
+calls-refused map store image n h =
+    record {
+      start = λ who e. unless-refuses zeroState store _ _ n h e;
+      power-on = λ s e. unless-refuses s store _ _ n h e;
+      step = λ s heard e. unless-refuses s store _ _ n h e;
+    }

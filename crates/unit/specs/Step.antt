@@ -1,0 +1,131 @@
+-- A frame step, a power-on, a start: what each leaves and answers. Paper 01, "State and clock" and "Commands obeyed".
+-- Assumes nothing.
+use Prim.Native.Nat.{ℕ, _+_}
+use mathlib.Core.Bool.{Bool, true, false, _&&_}
+use mathlib.Core.List.{List, [], _∷_, _++_}
+use lib.Dec.{ltb, eqb}
+use lib.ListN.{length}
+use Rattle.laws.specs.Choice.{if_then_else_}
+use Rattle.laws.specs.Numbers.{Test, test, firstFailing}
+use Rattle.laws.specs.Outcome.{Outcome, leaves}
+use Rattle.banks.specs.Map.{recordsOf}
+use Rattle.banks.specs.Rules.{checkTests}
+use Rattle.banks.specs.declared.record.Record.{Record}
+use Rattle.hearing.specs.Meaning.{meaningOf, closes}
+use Rattle.hearing.specs.Pairs.{noneWaits, waitsFor}
+use Rattle.hearing.specs.declared.rooms.Who.{Who}
+use Rattle.hearing.specs.declared.rooms.Heard.{Heard}
+use Rattle.memory.specs.Staged.{writeOf}
+use Rattle.memory.specs.Latched.{readOf}
+use Rattle.memory.specs.Filled.{filledOf}
+use Rattle.memory.specs.declared.staged.Wrote.{Wrote}
+use Rattle.memory.specs.declared.latched.Shown.{Shown}
+use Rattle.memory.specs.declared.filled.Filling.the-variants.{PowerOn, Reset}
+use Rattle.unit.specs.State.{withWho, withRegisters, withWaiting, withDoor, withLatch, shutDoor, openDoor, poweredOn, zeroState}
+use Rattle.unit.specs.Rules.{addressHolds, stateHolds}
+use Rattle.unit.specs.Due.{withDtr, dueOf}
+use Rattle.unit.specs.declared.state.State.{State}
+use Rattle.unit.specs.declared.state.Reply.{Reply}
+use Rattle.unit.specs.declared.state.Stepped.{Stepped}
+use Rattle.unit.specs.declared.due.Due.{Due}
+use Rattle.unit.specs.declared.due.Due.the-variants.{Nothing, Waits, Opens, Resets, Becomes, Loads, Answers, Writes, Reads}
+
+-- 0: accepted
+abbrev pub accepted : Bool → ℕ → Reply
+accepted answered answer = record { number = 0; answered = answered; answer = if answered then answer else 0 }
+
+-- accepted, and no answer
+unfoldable pub quiet : State → Stepped
+quiet s = record { reply = accepted false 0; state = s }
+
+-- accepted; answered or not
+unfoldable pub answering : State → Bool → ℕ → Stepped
+answering s answered answer = record { reply = accepted answered answer; state = s }
+
+-- refused: the number, and the state that was handed in
+unfoldable pub refusing : State → ℕ → Stepped
+refusing s n = record { reply = record { number = n; answered = false; answer = 0 }; state = s }
+
+-- any frame clears the waiting one; what closes write-enable drops staging
+unfoldable pub hearing : State → Bool → State
+hearing s closing = withWaiting (if closing then withDoor s shutDoor else s) noneWaits
+
+-- afterwards DTR0 rises by one unless 0xFF
+unfoldable pub raised : State → ℕ → State
+raised s location =
+    withRegisters s (withDtr (s .registers) 0 (if eqb location 0xFF then 0xFF else location + 1))
+
+-- a taken byte answers itself, except in the no-reply form
+unfoldable pub written : State → ℕ → ℕ → Bool → Outcome Wrote → Outcome Stepped
+written s location byte replying o =
+    leaves
+    (answering (withDoor (raised s location) (record { enabled = s .door .enabled; staged = o .answer .staged }))
+    (o .answer .taken && replying) byte)
+    (o .store)
+
+-- answer the byte, or none if the location is unmapped; DTR0 rises unless 0xFF
+unfoldable pub readBy : State → ℕ → Shown → Stepped
+readBy s location shown = answering (withLatch (raised s location) (shown .latch)) (shown .answered) (shown .answer)
+
+-- what is due is done
+unfoldable pub done : List Record → List ℕ → List ℕ → State → Heard → Due → Outcome Stepped
+done rs store image s heard Nothing = leaves (quiet s) store
+done rs store image s heard Waits = leaves (quiet (withWaiting s (waitsFor heard))) store
+done rs store image s heard Opens = leaves (quiet (withDoor s openDoor)) store
+done rs store image s heard (Resets dtr0) = leaves (quiet s) (filledOf rs store image (Reset dtr0))
+done rs store image s heard (Becomes who) = leaves (quiet (withWho s who)) store
+done rs store image s heard (Loads registers) = leaves (quiet (withRegisters s registers)) store
+done rs store image s heard (Answers byte) = leaves (answering s true byte) store
+done rs store image s heard (Writes bank location byte replying) =
+    written s location byte replying (writeOf rs store (s .door .staged) bank location byte)
+done rs store image s heard (Reads bank location) =
+    leaves (readBy s location (readOf rs store (s .latch) bank location)) store
+
+-- a frame step on a map, store and state that keep the rules
+unfoldable pub frameOf : List Record → List ℕ → List ℕ → State → Heard → Outcome Stepped
+frameOf rs store image s heard =
+    done rs store image (hearing s (closes (meaningOf (s .who) (heard .frame)))) heard (dueOf rs s heard)
+
+-- a power-on keeps address and groups: lock bytes 0xFF, other RAM-RW values from the reset image
+unfoldable pub powerOf : List Record → List ℕ → List ℕ → Who → Outcome Stepped
+powerOf rs store image who = leaves (quiet (poweredOn who)) (filledOf rs store image PowerOn)
+
+-- a frame step tests 7 to 12, then 1
+abbrev pub stepTests : List ℕ → List ℕ → ℕ → State → ℕ → List Test
+stepTests map store kept s frame =
+    checkTests map store kept
+    ++ test 12 (stateHolds (recordsOf map) store s) ∷ test 1 (ltb frame 16777216) ∷ []
+
+unfoldable pub stepNumber : List ℕ → List ℕ → ℕ → State → ℕ → ℕ
+stepNumber map store kept s frame = firstFailing (stepTests map store kept s frame)
+
+-- a later power-on tests 7 to 12
+abbrev pub powerTests : List ℕ → List ℕ → ℕ → State → List Test
+powerTests map store kept s = checkTests map store kept ++ test 12 (stateHolds (recordsOf map) store s) ∷ []
+
+unfoldable pub powerNumber : List ℕ → List ℕ → ℕ → State → ℕ
+powerNumber map store kept s = firstFailing (powerTests map store kept s)
+
+-- start tests 7 to 11, then 6
+abbrev pub startTests : List ℕ → List ℕ → ℕ → Who → List Test
+startTests map store kept who = checkTests map store kept ++ test 6 (addressHolds (who .address)) ∷ []
+
+unfoldable pub startNumber : List ℕ → List ℕ → ℕ → Who → ℕ
+startNumber map store kept who = firstFailing (startTests map store kept who)
+
+-- a refusal returns the number; state and store stay
+abbrev pub unless : ℕ → State → List ℕ → Outcome Stepped → Outcome Stepped
+unless number s store outcome = if eqb number 0 then outcome else leaves (refusing s number) store
+
+unfoldable pub stepOf : List ℕ → List ℕ → List ℕ → State → Heard → Outcome Stepped
+stepOf map store image s heard =
+    unless (stepNumber map store (length image) s (heard .frame)) s store (frameOf (recordsOf map) store image s heard)
+
+unfoldable pub powerOnOf : List ℕ → List ℕ → List ℕ → State → Outcome Stepped
+powerOnOf map store image s =
+    unless (powerNumber map store (length image) s) s store (powerOf (recordsOf map) store image (s .who))
+
+-- start acts as a power-on; a refused start's state is all zeros
+unfoldable pub startOf : List ℕ → List ℕ → List ℕ → Who → Outcome Stepped
+startOf map store image who =
+    unless (startNumber map store (length image) who) zeroState store (powerOf (recordsOf map) store image who)
