@@ -1,10 +1,10 @@
 -- What the rules 8, 9 and 10 say of the records of a map.
 -- Assumes nothing.
-use mathlib.Core.Path.{_≡_, refl, ap, sym, _∙_, subst}
+use mathlib.Core.Path.{_≡_, refl, sym, _∙_, subst}
 use mathlib.Core.Logic.{_⊎_, inl, inr, ⊎-elim}
-use mathlib.Core.Bool.{Bool, true, false, _&&_, _||_}
+use mathlib.Core.Bool.{true, _&&_}
 use mathlib.Core.List.{List, [], _∷_, List·Memᴰ, List·Memᴰ·head, List·Memᴰ·tail}
-use Prim.Native.Nat.{ℕ, zero, suc, _+_, _-_, _/_, _≤_, _<_}
+use Prim.Native.Nat.{ℕ, zero, suc, _+_, _-_, _/_, _<_}
 use native.Mathlib.Omega.{arith}
 use borrow.Author.Tests.{leb-true, ltb-true, eqb-true, le-leb, lt-ltb, eq-eqb}
 use lib.Dec.{leb, ltb, eqb}
@@ -15,7 +15,8 @@ use Rattle.laws.proofs.Items.{every-at}
 use Rattle.laws.proofs.Sides.{either, or-left, or-right, and-left, and-right}
 use Rattle.laws.proofs.Members.{every-of, items-member}
 use Rattle.banks.specs.Map.{recordAt, recordsOf, writable, locationsEnd, placesEnd}
-use Rattle.banks.specs.Rules.{lockableHolds, fieldsHold, before, risingFrom, rising, inside, clear, disjoint, placesHold, ordered, placed}
+use Rattle.banks.specs.Rules.{lockableHolds, fieldsHold, before, risingFrom, rising, inside, clear, disjoint}
+use Rattle.banks.specs.Rules.{placesHold, ordered, placed}
 use Rattle.banks.specs.Facts.{Fielded, Before, Apart}
 use Rattle.banks.specs.Promises.{MemberFields, MembersRise, MemberInside, MembersApart}
 use Rattle.banks.specs.declared.record.Record.{Record}
@@ -55,7 +56,8 @@ is-before : (p r : Record) → Before p r → before p r ≡ true
 is-before p r (inl h) = or-left (ltb (p .bank) (r .bank)) _ (lt-ltb (p .bank) (r .bank) h)
 is-before p r (inr h) =
     or-right (ltb (p .bank) (r .bank)) _
-    (and-of (eqb (p .bank) (r .bank)) (leb (locationsEnd p) (r .first)) (eq-eqb (p .bank) (r .bank) (h .0)) (le-leb (locationsEnd p) (r .first) (h .1)))
+    (and-of (eqb (p .bank) (r .bank)) (leb (locationsEnd p) (r .first)) (eq-eqb (p .bank) (r .bank) (h .0))
+    (le-leb (locationsEnd p) (r .first) (h .1)))
 
 before-trans : (p q r : Record) → Before p q → Before q r → Before p r
 before-trans p q r (inl h) (inl k) = inl (omega arith)
@@ -70,8 +72,8 @@ rising-all p (r ∷ rs) e =
     let b = both (before p r) (risingFrom r rs) e in
     let after = rising-all r rs (b .1) in
     and-of (before p r) (every (before p) rs) (b .0)
-    (every-of (before p) rs
-    (λ x m. is-before p x (before-trans p r x (before-is p r (b .0)) (before-is r x (every-at (before r) rs after x m)))))
+    (every-of (before p) rs (λ x m.
+    is-before p x (before-trans p r x (before-is p r (b .0)) (before-is r x (every-at (before r) rs after x m)))))
 
 pub rising-tail : (p : Record) (rs : List Record) → risingFrom p rs ≡ true → rising rs ≡ true
 rising-tail p [] e = refl
@@ -89,12 +91,17 @@ other-way : (p r : Record) → Apart p r → Apart r p
 other-way p r (inl h) = inr h
 other-way p r (inr h) = inl h
 
-disjoint-apart : (rs : List Record) → disjoint rs ≡ true → (p r : Record) → List·Memᴰ p rs → List·Memᴰ r rs → (p ≡ r) ⊎ Apart p r
+rest-apart : (x : Record) (rs : List Record) → disjoint (x ∷ rs) ≡ true → (p r : Record) → p ≡ x → List·Memᴰ r rs
+    → Apart p r
+rest-apart x rs e p r a m =
+    let c = clear-apart x r (every-at (clear x) rs (both (every (clear x) rs) (disjoint rs) e .0) r m) in
+    subst (λ (y : Record). Apart y r) (sym a) c
+
+disjoint-apart : (rs : List Record) → disjoint rs ≡ true → (p r : Record) → List·Memᴰ p rs → List·Memᴰ r rs
+    → (p ≡ r) ⊎ Apart p r
 disjoint-apart (x ∷ rs) e p r (List·Memᴰ·head a) (List·Memᴰ·head b) = inl (a ∙ sym b)
-disjoint-apart (x ∷ rs) e p r (List·Memᴰ·head a) (List·Memᴰ·tail m) =
-    inr (subst (λ (y : Record). Apart y r) (sym a) (clear-apart x r (every-at (clear x) rs (both (every (clear x) rs) (disjoint rs) e .0) r m)))
-disjoint-apart (x ∷ rs) e p r (List·Memᴰ·tail m) (List·Memᴰ·head b) =
-    inr (other-way r p (subst (λ (y : Record). Apart y p) (sym b) (clear-apart x p (every-at (clear x) rs (both (every (clear x) rs) (disjoint rs) e .0) p m))))
+disjoint-apart (x ∷ rs) e p r (List·Memᴰ·head a) (List·Memᴰ·tail m) = inr (rest-apart x rs e p r a m)
+disjoint-apart (x ∷ rs) e p r (List·Memᴰ·tail m) (List·Memᴰ·head b) = inr (other-way r p (rest-apart x rs e r p b m))
 disjoint-apart (x ∷ rs) e p r (List·Memᴰ·tail m) (List·Memᴰ·tail k) =
     disjoint-apart rs (both (every (clear x) rs) (disjoint rs) e .1) p r m k
 
@@ -112,16 +119,18 @@ member-fields map o r m = fielded r (every-at fieldsHold (recordsOf map) (fields
 
 module _ (item : ℕ → Record) where
   renumbered : (a b i j : ℕ) → a ≡ i → b ≡ j → Before (item a) (item b) → Before (item i) (item j)
-  renumbered a b i j p q h = subst (λ (x : ℕ). Before (item x) (item j)) p (subst (λ (x : ℕ). Before (item a) (item x)) q h)
+  renumbered a b i j p q h =
+      subst (λ (x : ℕ). Before (item x) (item j)) p (subst (λ (x : ℕ). Before (item a) (item x)) q h)
 
   -- of n items from number k on, number i stands before number j
   rise : (n k i j : ℕ) → rising (items item k n) ≡ true → i < j → j < n → Before (item (k + i)) (item (k + j))
   rise zero k i j u h l = absurd (omega arith)
   rise (suc n) k zero j u h l =
-      let later = items-member item (suc k) n (j - 1) (omega arith) in
-      let all = rising-all (item k) (items item (suc k) n) u in
-      let is = before-is (item k) (item (suc k + (j - 1))) (every-at (before (item k)) (items item (suc k) n) all (item (suc k + (j - 1))) later) in
-      renumbered k (suc k + (j - 1)) (k + 0) (k + j) (omega arith) (omega arith) is
+      let later = suc k + (j - 1) in
+      let rest = items item (suc k) n in
+      let there = items-member item (suc k) n (j - 1) (omega arith) in
+      let t = every-at (before (item k)) rest (rising-all (item k) rest u) (item later) there in
+      renumbered k later (k + 0) (k + j) (omega arith) (omega arith) (before-is (item k) (item later) t)
   rise (suc n) k (suc i) j u h l =
       let is = rise n (suc k) i (j - 1) (rising-tail (item k) (items item (suc k) n) u) (omega arith) (omega arith) in
       renumbered (suc k + i) (suc k + (j - 1)) (k + suc i) (k + j) (omega arith) (omega arith) is
@@ -129,7 +138,8 @@ module _ (item : ℕ → Record) where
 pub members-rise : MembersRise
 unfolding recordsOf
 members-rise map o i j h l =
-    renumbered (recordAt map) (0 + i) (0 + j) i j (omega arith) (omega arith) (rise (recordAt map) (length map / 8) 0 i j (rises map o) h l)
+    renumbered (recordAt map) (0 + i) (0 + j) i j (omega arith) (omega arith)
+    (rise (recordAt map) (length map / 8) 0 i j (rises map o) h l)
 
 -- the records of a map whose places lie in a store of n bytes
 pub placed-ordered : (map : List ℕ) (n : ℕ) → placed map n ≡ true → ordered map ≡ true
@@ -138,7 +148,8 @@ placed-ordered map n p = both (ordered map) (placesHold (recordsOf map) n n) p .
 
 pub member-inside : MemberInside
 unfolding placed placesHold
-member-inside map n p r m = leb-true (placesEnd r) n (every-at (inside n) (recordsOf map) (search (and-left, and-right)) r m)
+member-inside map n p r m =
+    leb-true (placesEnd r) n (every-at (inside n) (recordsOf map) (search (and-left, and-right)) r m)
 
 pub members-apart : MembersApart
 unfolding placed placesHold

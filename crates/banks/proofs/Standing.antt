@@ -1,24 +1,24 @@
 -- The number of map, store and image, and what stands where it is 0.
 -- Assumes nothing.
-use mathlib.Core.Path.{_≡_, refl, ap, sym, _∙_, subst}
-use mathlib.Core.Bool.{Bool, true, false, _&&_}
+use mathlib.Core.Path.{_≡_, refl, sym}
+use mathlib.Core.Bool.{true, _&&_}
 use mathlib.Core.List.{List}
 use Prim.Native.Nat.{ℕ}
-use borrow.Author.Tests.{eqb-true, eq-eqb}
-use lib.Dec.{leb, eqb}
+use borrow.Author.Tests.{eqb-true}
 use lib.ListN.{length}
 use Rattle.laws.specs.Lists.{every}
-use Rattle.laws.specs.Numbers.{Test, test, firstFailing}
-use Rattle.laws.proofs.Tests.{both, and-of}
+use Rattle.laws.proofs.Tests.{both}
 use Rattle.laws.proofs.Sides.{and-left, and-right}
 use Rattle.laws.proofs.Numbers.{exactly-if, none-exactly-if}
 use Rattle.laws.proofs.Settled.{settles}
 use Rattle.banks.specs.Map.{recordsOf}
-use Rattle.banks.specs.Rules.{sizeHolds, fieldsHold, rising, lengthsHold, inside, disjoint, placesHold, banksHold, headBytesHold, checkTests, checkNumber, ordered, placed}
+use Rattle.banks.specs.Rules.{sizeHolds, fieldsHold, rising, lengthsHold, placesHold}
+use Rattle.banks.specs.Rules.{banksHold, headBytesHold, checkTests, checkNumber, ordered, placed}
 use Rattle.banks.specs.Facts.{Stands}
 use Rattle.banks.specs.Promises.{CheckNumbers, CheckStands, CheckSettled}
 
-pub ordered-of : (map : List ℕ) → sizeHolds (length map) ≡ true → every fieldsHold (recordsOf map) ≡ true → rising (recordsOf map) ≡ true
+pub ordered-of : (map : List ℕ)
+    → sizeHolds (length map) ≡ true → every fieldsHold (recordsOf map) ≡ true → rising (recordsOf map) ≡ true
     → ordered map ≡ true
 unfolding ordered
 ordered-of map a b c = rw (a, b, c)
@@ -28,7 +28,8 @@ same-lengths : (map : List ℕ) (n kept : ℕ) → placesHold (recordsOf map) n 
 unfolding placesHold lengthsHold
 same-lengths map n kept e = eqb-true n kept (search (and-left, and-right))
 
-pub placed-of : (map : List ℕ) (n kept : ℕ) → ordered map ≡ true → placesHold (recordsOf map) n kept ≡ true → placed map n ≡ true
+pub placed-of : (map : List ℕ) (n kept : ℕ) → ordered map ≡ true → placesHold (recordsOf map) n kept ≡ true
+    → placed map n ≡ true
 unfolding placed
 placed-of map n kept o e = rw (o, same-lengths map n kept e) (rw (same-lengths map n kept e) at e)
 
@@ -41,7 +42,8 @@ stands map store kept e =
     let fields = both (every fieldsHold rs) _ (size .1) in
     let rise = both (rising rs) _ (fields .1) in
     let places = both (placesHold rs (length store) kept) _ (rise .1) in
-    let banks = both (banksHold rs) (headBytesHold rs store) (both (banksHold rs && headBytesHold rs store) true (places .1) .0) in
+    let eleven = both (banksHold rs && headBytesHold rs store) true (places .1) in
+    let banks = both (banksHold rs) (headBytesHold rs store) (eleven .0) in
     let o = ordered-of map (size .0) (fields .0) (rise .0) in
     record {
       in-order = o;
@@ -51,14 +53,15 @@ stands map store kept e =
       heads = banks .1;
     }
 
-is-standing : (map store : List ℕ) (kept : ℕ) → Stands map store kept → checkNumber map store kept ≡ 0
+pub is-standing : (map store : List ℕ) (kept : ℕ) → Stands map store kept → checkNumber map store kept ≡ 0
 unfolding checkNumber ordered placed
 is-standing map store kept s =
     let rs = recordsOf map in
     let size = both (sizeHolds (length map)) _ (s .in-order) in
     let fields = both (every fieldsHold rs) (rising rs) (size .1) in
     let places = both (ordered map) (placesHold rs (length store) (length store)) (s .in-place) in
-    none-exactly-if (checkTests map store kept) refl .1 (rw (s .as-long, size .0, fields .0, fields .1, places .1, s .banks, s .heads))
+    none-exactly-if (checkTests map store kept) refl .1
+    (rw (s .as-long, size .0, fields .0, fields .1, places .1, s .banks, s .heads))
 
 pub check-stands : CheckStands
 check-stands map store kept = (stands map store kept, is-standing map store kept)

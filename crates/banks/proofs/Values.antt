@@ -1,6 +1,6 @@
 -- Values in the store: one that is put, what stays, and that the checks go on holding.
 -- Assumes nothing.
-use mathlib.Core.Path.{_≡_, refl, ap, sym, _∙_, subst}
+use mathlib.Core.Path.{_≡_, refl, ap, sym, _∙_}
 use mathlib.Core.Logic.{_⊎_, inl, inr, ⊎-elim}
 use mathlib.Core.Bool.{Bool, true, false, not, _||_}
 use mathlib.Core.List.{List}
@@ -8,18 +8,16 @@ use Prim.Native.Nat.{ℕ, _+_, _≤_, _<_}
 use native.Mathlib.Omega.{arith}
 use borrow.Author.Tests.{eqb-true}
 use lib.ListN.{length, getD}
-use Rattle.laws.specs.Lists.{every}
 use Rattle.laws.specs.Parts.{part, put}
-use Rattle.laws.specs.Numbers.{firstFailing}
 use Rattle.laws.proofs.Tests.{clash}
 use Rattle.laws.proofs.Sides.{and-left, and-right}
 use Rattle.laws.proofs.Members.{every-same}
 use Rattle.laws.proofs.Parts.{part-stays, part-put, length-put}
 use Rattle.laws.proofs.PartBytes.{first-byte, byte-stays}
 use Rattle.banks.specs.Map.{recordsOf, writable, placesEnd}
-use Rattle.banks.specs.Rules.{placed, isHead, headByteHolds, headHolds, headBytesHold, checkTests, checkNumber}
+use Rattle.banks.specs.Rules.{placed, isHead, headByteHolds, headHolds, headBytesHold, checkNumber}
 use Rattle.banks.specs.Lookup.{holder, valueOf, putValue, byteAt, lockByte}
-use Rattle.banks.specs.Facts.{Member, Apart, Put}
+use Rattle.banks.specs.Facts.{Member, Apart}
 use Rattle.banks.specs.Promises.{ValuePut, CheckStays, CheckStaysPut}
 use Rattle.banks.specs.declared.record.Record.{Record}
 use Rattle.banks.specs.declared.holder.Found.{Found}
@@ -33,12 +31,14 @@ value-byte : (r : Record) (store : List ℕ) → 0 < r .width → getD (valueOf 
 unfolding valueOf
 value-byte r store h = first-byte (r .offset) (r .width) store h
 
-module _ (map store bytes : List ℕ) (r : Record) (p : placed map (length store) ≡ true) (m : Member r map) (w : length bytes ≡ r .width) where
+module _ (map store bytes : List ℕ) (r : Record) (p : placed map (length store) ≡ true) (m : Member r map)
+    (w : length bytes ≡ r .width) where
   there : valueOf r (putValue r bytes store) ≡ bytes
   unfolding valueOf putValue
   there =
       let h = member-inside map (length store) p r m in
-      ap (λ (n : ℕ). part (r .offset) n (put (r .offset) bytes store)) (sym w) ∙ part-put (r .offset) bytes store (omega arith)
+      ap (λ (n : ℕ). part (r .offset) n (put (r .offset) bytes store)) (sym w) ∙ part-put (r .offset) bytes store
+      (omega arith)
 
   others : (s : Record) → Member s map → (s ≡ r → ⊥) → valueOf s (putValue r bytes store) ≡ valueOf s store
   unfolding valueOf putValue
@@ -50,11 +50,13 @@ module _ (map store bytes : List ℕ) (r : Record) (p : placed map (length store
       away s (inl h) = inr h
       away s (inr h) = inl (omega arith)
 
-  unmapped : (j : ℕ) → ((s : Record) → Member s map → (j < s .offset) ⊎ (placesEnd s ≤ j)) → getD (putValue r bytes store) j 0 ≡ getD store j 0
+  unmapped : (j : ℕ) → ((s : Record) → Member s map → (j < s .offset) ⊎ (placesEnd s ≤ j)) → getD
+      (putValue r bytes store) j 0 ≡ getD store j 0
   unfolding putValue
   unmapped j h = byte-stays (r .offset) j bytes store (⊎-elim (λ k. inl k) (λ k. inr (omega arith)) (h r m))
 
-  locks : (bank : ℕ) → (holder (recordsOf map) bank 0x02 ≡ At r → ⊥) → lockByte (recordsOf map) (putValue r bytes store) bank ≡ lockByte (recordsOf map) store bank
+  locks : (bank : ℕ) → (holder (recordsOf map) bank 0x02 ≡ At r → ⊥) → lockByte (recordsOf map)
+      (putValue r bytes store) bank ≡ lockByte (recordsOf map) store bank
   unfolding lockByte byteAt
   locks bank n = go (holder (recordsOf map) bank 0x02) refl
     where
@@ -78,22 +80,29 @@ value-put map store bytes r p m w =
     }
 
 -- rule 11 reads the store only at records of kind ROM
-head-stays : (rs : List Record) (s t : List ℕ) (r : Record) → (writable r ≡ false → valueOf r s ≡ valueOf r t) → headHolds rs s r ≡ headHolds rs t r
+head-stays : (rs : List Record) (s t : List ℕ) (r : Record) → (writable r ≡ false → valueOf r s ≡ valueOf r t)
+    → headHolds rs s r ≡ headHolds rs t r
 unfolding headHolds
 head-stays rs s t r h = go (isHead r) refl
   where
-    go : (b : Bool) → isHead r ≡ b → (not b || headByteHolds rs (r .bank) (getD s (r .offset) 0)) ≡ (not b || headByteHolds rs (r .bank) (getD t (r .offset) 0))
+    go : (b : Bool) → isHead r ≡ b → (not b || headByteHolds rs (r .bank)
+        (getD s (r .offset) 0)) ≡ (not b || headByteHolds rs (r .bank) (getD t (r .offset) 0))
     go false e = refl
     go true e =
         let rom : r .kind ≡ 0 = search (and-left, and-right, eqb-true) in
         let w = single-head r e .1 in
         ap (headByteHolds rs (r .bank))
-        (sym (value-byte r s (omega arith)) ∙ ap (λ (v : List ℕ). getD v 0 0) (h (rw rom)) ∙ value-byte r t (omega arith))
+        (sym (value-byte r s (omega arith)) ∙ ap (λ (v : List ℕ). getD v 0 0) (h (rw rom)) ∙ value-byte r t
+        (omega arith))
 
 pub check-stays : CheckStays
 unfolding checkNumber headBytesHold
 check-stays map s t kept n h =
-    rw (n, every-same (headHolds (recordsOf map) s) (headHolds (recordsOf map) t) (recordsOf map) (λ r m. head-stays (recordsOf map) s t r (h r m)))
+    rw (
+      n,
+      every-same (headHolds (recordsOf map) s) (headHolds (recordsOf map) t) (recordsOf map)
+          (λ r m. head-stays (recordsOf map) s t r (h r m)),
+    )
 
 pub check-stays-put : CheckStaysPut
 check-stays-put map store bytes kept r p m w k =

@@ -1,5 +1,5 @@
--- Worked cases: paper 01's bench map and its neighbours at each boundary, with the number that each must get. One table and
--- one statement for the checks, and one for the looks.
+-- Worked cases: paper 01's bench map and its neighbours at each boundary, with the number that each must get. One table
+-- and one statement for the checks, and one for the looks.
 -- Assumes nothing.
 use mathlib.Core.Path.{_≡_}
 use mathlib.Core.List.{List, [], _∷_, _++_, map}
@@ -155,6 +155,10 @@ lookCases =
 
 -- each case gets its number, its place and its bytes
 pub record LookCases : Type 0 where
-  pub numbers : map (λ c. lookNumber (c .records) (c .store) (c .bank) (c .location)) lookCases ≡ map (λ c. c .answer .number) lookCases
-  pub places : map (λ c. lookOf (c .records) (c .store) (c .bank) (c .location)) lookCases ≡ map (λ c. c .answer) lookCases
-  pub bytes : map (λ c. lookBytes (c .records) (c .store) (c .bank) (c .location)) lookCases ≡ map (λ c. c .bytes) lookCases
+  pub numbers :
+      map (λ c. lookNumber (c .records) (c .store) (c .bank) (c .location)) lookCases
+      ≡ map (λ c. c .answer .number) lookCases
+  pub places :
+      map (λ c. lookOf (c .records) (c .store) (c .bank) (c .location)) lookCases ≡ map (λ c. c .answer) lookCases
+  pub bytes :
+      map (λ c. lookBytes (c .records) (c .store) (c .bank) (c .location)) lookCases ≡ map (λ c. c .bytes) lookCases

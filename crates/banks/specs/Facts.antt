@@ -12,7 +12,6 @@ use Rattle.banks.specs.Lookup.{holder, valueOf, putValue, lockByte}
 use Rattle.banks.specs.Look.{lookOf, lookBytes}
 use Rattle.banks.specs.declared.record.Record.{Record}
 use Rattle.banks.specs.declared.holder.Found.the-variants.{At}
-use Rattle.banks.specs.declared.looked.Looked.{Looked}
 
 -- a record of the map
 abbrev pub Member : Record → List ℕ → Type 0
@@ -70,11 +69,16 @@ pub record Put (map store bytes : List ℕ) (r : Record) : Type 0 where
   -- they are that value's bytes
   pub there : valueOf r (putValue r bytes store) ≡ bytes
   -- every other value stays
-  pub others : (s : Record) → Member s map → (s ≡ r → ⊥) → valueOf s (putValue r bytes store) ≡ valueOf s store
+  pub others :
+      (s : Record) → Member s map → (s ≡ r → ⊥) → valueOf s (putValue r bytes store) ≡ valueOf s store
   -- every byte under no record stays
-  pub unmapped : (j : ℕ) → ((s : Record) → Member s map → (j < s .offset) ⊎ (placesEnd s ≤ j)) → getD (putValue r bytes store) j 0 ≡ getD store j 0
+  pub unmapped :
+      (j : ℕ) → ((s : Record) → Member s map → (j < s .offset) ⊎ (placesEnd s ≤ j))
+      → getD (putValue r bytes store) j 0 ≡ getD store j 0
   -- every lock byte stays but one that is the value itself
-  pub locks : (bank : ℕ) → (holder (recordsOf map) bank 0x02 ≡ At r → ⊥) → lockByte (recordsOf map) (putValue r bytes store) bank ≡ lockByte (recordsOf map) store bank
+  pub locks :
+      (bank : ℕ) → (holder (recordsOf map) bank 0x02 ≡ At r → ⊥)
+      → lockByte (recordsOf map) (putValue r bytes store) bank ≡ lockByte (recordsOf map) store bank
   pub as-long : length (putValue r bytes store) ≡ length store
 
 -- a look that found the value r

@@ -1,5 +1,5 @@
--- The look calls: the stored bytes of a value that begins at a given bank and location. Paper 01, "Map, store, reset image"
--- and "Refusal numbers": 7 to 11, then 14; a call without an image takes the store for it.
+-- The look calls: the stored bytes of a value that begins at a given bank and location. Paper 01, "Map, store, reset
+-- image" and "Refusal numbers": 7 to 11, then 14; a call without an image takes the store for it.
 -- Assumes nothing.
 use Prim.Native.Nat.{ℕ}
 use mathlib.Core.Bool.{Bool, true, false}
@@ -12,11 +12,11 @@ use Rattle.laws.specs.Numbers.{Test, test, firstFailing}
 use Rattle.banks.specs.Map.{recordsOf}
 use Rattle.banks.specs.Rules.{checkTests}
 use Rattle.banks.specs.Lookup.{beginner}
-use Rattle.banks.specs.declared.record.Record.{Record}
 use Rattle.banks.specs.declared.holder.Found.{Found}
 use Rattle.banks.specs.declared.holder.Found.the-variants.{At, Nothing}
 use Rattle.banks.specs.declared.looked.Looked.{Looked}
 
+-- a value was found
 abbrev pub isFound : Found → Bool
 isFound (At r) = true
 isFound Nothing = false
@@ -29,10 +29,11 @@ lookTests map store bank location =
 unfoldable pub lookNumber : List ℕ → List ℕ → ℕ → ℕ → ℕ
 lookNumber map store bank location = firstFailing (lookTests map store bank location)
 
--- number, width and offset; a refusal has no place
+-- a refusal has no place
 abbrev pub refusedLook : ℕ → Looked
 refusedLook n = record { number = n; width = 0; offset = 0 }
 
+-- of each case its number and values: 0 with the width and offset of the value, or 14
 abbrev pub placeOf : Found → Looked
 placeOf (At r) = record { number = 0; width = r .width; offset = r .offset }
 placeOf Nothing = refusedLook 14

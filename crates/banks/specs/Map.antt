@@ -1,9 +1,9 @@
 -- The map: records of 8 bytes. Paper 01, "Map, store, reset image".
 -- Assumes nothing.
-use Prim.Native.Nat.{ℕ, _+_, _*_, _/_}
-use mathlib.Core.Bool.{Bool, true, false, _&&_, _||_}
+use Prim.Native.Nat.{ℕ, _+_, _-_, _*_, _/_}
+use mathlib.Core.Bool.{Bool, _||_}
 use mathlib.Core.List.{List}
-use lib.Dec.{leb, ltb, eqb}
+use lib.Dec.{eqb}
 use lib.ListN.{length, getD}
 use Rattle.laws.specs.Lists.{items, some}
 use Rattle.banks.specs.declared.record.Record.{Record}
@@ -20,6 +20,10 @@ recordAt map i =
       zero = getD map (8 * i + 5) 0;
       offset = getD map (8 * i + 6) 0 * 256 + getD map (8 * i + 7) 0;
     }
+
+-- the records from number i on
+abbrev pub recordsFrom : List ℕ → ℕ → List Record
+recordsFrom map i = items (recordAt map) i (length map / 8 - i)
 
 -- the map is records of 8 bytes, no header
 unfoldable pub recordsOf : List ℕ → List Record

@@ -1,4 +1,5 @@
-// The look calls: the stored bytes of a value that begins at a given bank and location. They have no image, and take the store for it.
+// The look calls: the stored bytes of a value that begins at a given bank and location. They have no image: the store
+// stands for it.
 ghost use mathlib.Core.Path.{_≡_};
 ghost use Rattle.banks.specs.Lookup.{ifFirst};
 ghost use Rattle.banks.specs.Look.{lookNumber, refusedLook, placeOf, lookOf, lookBytes};

@@ -1,10 +1,10 @@
 // The rules 7 to 11 of map, store and reset image, each over everything.
 ghost use mathlib.Core.Path.{_≡_};
 ghost use mathlib.Core.Bool.{true};
-ghost use Prim.Native.Nat.{_-_, _/_, _≤_};
+ghost use Prim.Native.Nat.{_≤_};
 ghost use lib.ListN.{length};
-ghost use Rattle.laws.specs.Lists.{items, every};
-ghost use Rattle.banks.specs.Map.{recordAt, recordsOf, placesEnd};
+ghost use Rattle.laws.specs.Lists.{every};
+ghost use Rattle.banks.specs.Map.{recordsFrom, recordsOf, placesEnd};
 ghost use Rattle.banks.specs.Rules.{sizeHolds, lockableHolds, fieldsHold, before, rising, ordered};
 ghost use Rattle.banks.specs.Rules.{lengthsHold, inside, clear, disjoint, placesHold, placed};
 ghost use Rattle.banks.specs.Rules.{isHead, isLock, bankHas, bankHolds, banksHold};
@@ -129,7 +129,7 @@ fn are_clear(p: Record, r: Record) -> bool
 
 // 10, of the place of p and those of the records from number `from` on.
 fn is_clear_of(map: &[u8], p: Record, from: usize) -> bool
-    ensures { λ b. ⌜ b ≡ every (clear p) (items (recordAt (now (map .entry))) from (length (now (map .entry)) / 8 - from)) ⌝ }
+    ensures { λ b. ⌜ b ≡ every (clear p) (recordsFrom (now (map .entry)) from) ⌝ }
 {
     let n = records(map);
     let mut i = from;
@@ -181,7 +181,7 @@ fn is_lock(r: Record) -> bool
     (r.first == 0x02) & (r.width == 1) & (r.kind == 2) & (r.lockable == 0)
 }
 
-// 11, the record at 0x00. Internal: the map has passed 7, 8 and 9, so the look-up finds the one record that could be it.
+// 11, the record at 0x00. Internal: the map has passed 7, 8 and 9, so the look-up finds the one record that can be it.
 fn has_head(map: &[u8], bank: u8) -> bool
     requires { ⌜ ordered (now map) ≡ true ⌝ }
     ensures { λ b. ⌜ b ≡ bankHas isHead (recordsOf (now (map .entry))) bank ⌝ }
@@ -294,7 +294,7 @@ pub fn head_bytes_hold(map: &[u8], store: &[u8]) -> bool
     true
 }
 
-// The number of map, store and an image of `kept` bytes: 7 to 11, or 0. For those who have no image at hand.
+// Internal: the number of map, store and an image of `kept` bytes, for those who have no image at hand.
 pub fn check_number(map: &[u8], store: &[u8], kept: usize) -> u8
     ensures { λ r. ⌜ r ≡ checkNumber (now (map .entry)) (now (store .entry)) kept ⌝ }
 {

@@ -1,19 +1,19 @@
 -- Two lists of tests, one after the other: where the first list passes, the second gives the number.
 -- Assumes nothing.
-use mathlib.Core.Path.{_≡_, refl, sym, _∙_}
+use mathlib.Core.Path.{_≡_, refl}
 use mathlib.Core.Logic.{⊎-elim}
-use mathlib.Core.Bool.{Bool, true, not}
+use mathlib.Core.Bool.{true, not}
 use mathlib.Core.List.{List, [], _∷_, _++_}
 use Prim.Native.Nat.{ℕ, _<_}
 use native.Mathlib.Omega.{arith}
 use lib.Dec.{eqb}
 use borrow.Author.Tests.{eqb-false}
-use Rattle.laws.specs.Lists.{every}
 use Rattle.laws.specs.Numbers.{Test, firstFailing, numbered}
 use Rattle.laws.proofs.Tests.{both, denied}
 use Rattle.laws.proofs.Sides.{chosen}
 
-pub joined-none : (ts us : List Test) → numbered ts ≡ true → firstFailing ts ≡ 0 → firstFailing (ts ++ us) ≡ firstFailing us
+pub joined-none : (ts us : List Test) → numbered ts ≡ true → firstFailing ts ≡ 0 → firstFailing
+    (ts ++ us) ≡ firstFailing us
 unfolding firstFailing
 joined-none [] us k e = refl
 joined-none (t ∷ ts) us k e =

@@ -26,7 +26,8 @@ module _ {A : Type 0} where
   pub some-at : (f : A → Bool) (xs : List A) → some f xs ≡ true → (x : A) × List·Memᴰ x xs × (f x ≡ true)
   some-at f [] e = absurd (false≢true e)
   some-at f (x ∷ xs) e =
-      ⊎-elim (λ t. (x, List·Memᴰ·head refl, t)) (λ t. let y = some-at f xs t in (y .0, List·Memᴰ·tail (y .1), y .2)) (either (f x) (some f xs) e)
+      ⊎-elim (λ t. (x, List·Memᴰ·head refl, t)) (λ t. let y = some-at f xs t in (y .0, List·Memᴰ·tail (y .1), y .2))
+      (either (f x) (some f xs) e)
 
   pub some-of : (f : A → Bool) (xs : List A) (x : A) → List·Memᴰ x xs → f x ≡ true → some f xs ≡ true
   some-of f (y ∷ xs) x (List·Memᴰ·head p) t = or-left (f y) (some f xs) (ap f (sym p) ∙ t)
@@ -37,4 +38,5 @@ module _ {A : Type 0} where
   items-member item i zero k h = absurd (not-suc-le-zero h)
   items-member item i (suc n) zero h = List·Memᴰ·head (ap item (add-zero i))
   items-member item i (suc n) (suc k) h =
-      List·Memᴰ·tail (Memᴰ·cast (ap item (add-suc i k ∙ sym (suc-add i k))) (items-member item (suc i) n k (le-of-suc-le-suc h)))
+      List·Memᴰ·tail (Memᴰ·cast (ap item (add-suc i k ∙ sym (suc-add i k)))
+      (items-member item (suc i) n k (le-of-suc-le-suc h)))

@@ -1,6 +1,6 @@
 -- The bytes of a part, and a byte that stays where a part is put.
 -- Assumes nothing.
-use mathlib.Core.Path.{_≡_, refl, ap, sym, _∙_}
+use mathlib.Core.Path.{_≡_, ap, sym, _∙_}
 use mathlib.Core.Logic.{_⊎_, inl, inr}
 use mathlib.Core.List.{List}
 use Prim.Native.Nat.{ℕ, _+_, _≤_, _<_}
@@ -19,7 +19,8 @@ first-byte at n s h = getD-take n _ 0 0 h ∙ getD-drop at s 0 0 ∙ ap (λ (k :
 -- a byte before what is put, or after it, stays
 pub byte-stays : (i j : ℕ) (bs s : List ℕ) → (j < i) ⊎ (i + length bs ≤ j) → getD (put i bs s) j 0 ≡ getD s j 0
 byte-stays i j bs s h =
-    sym (first-byte j 1 (put i bs s) (omega arith)) ∙ ap (λ (p : List ℕ). getD p 0 0) (part-stays j 1 bs s i (apart h)) ∙ first-byte j 1 s (omega arith)
+    sym (first-byte j 1 (put i bs s) (omega arith)) ∙ ap (λ (p : List ℕ). getD p 0 0)
+    (part-stays j 1 bs s i (apart h)) ∙ first-byte j 1 s (omega arith)
   where
     apart : (j < i) ⊎ (i + length bs ≤ j) → (i + length bs ≤ j) ⊎ (j + 1 ≤ i)
     apart (inl k) = inr (omega arith)

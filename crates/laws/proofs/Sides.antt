@@ -27,7 +27,8 @@ pub and-right : (a b : Bool) → (a && b) ≡ true → b ≡ true
 and-right a b e = both a b e .1
 
 -- what a choice gave, it gave by one of its sides
-pub chosen : {A : Type 0} (b : Bool) {x y z : A} → (if b then x else y) ≡ z → ((b ≡ true) × (x ≡ z)) ⊎ ((b ≡ false) × (y ≡ z))
+pub chosen : {A : Type 0} (b : Bool) {x y z : A} → (if b then x else y) ≡ z
+    → ((b ≡ true) × (x ≡ z)) ⊎ ((b ≡ false) × (y ≡ z))
 chosen true e = inl (refl, e)
 chosen false e = inr (refl, e)
 
