@@ -7,7 +7,7 @@ use mathlib.Core.List.{List, [], _∷_, _++_, append-nil, append-assoc}
 use native.Mathlib.Omega.{arith}
 use native.Mathlib.Numerals.{add-one}
 use native.Mathlib.Nat.{not-suc-le-zero, le-of-suc-le-suc, zero-sub, sub-zero, suc-sub-suc, add-sub-cancel-left}
-use lib.ListN.{length, take, drop, set, getD, replicate, drop-of-length-le, length-drop, length-take}
+use lib.ListN.{length, take, drop, set, getD, replicate, drop-of-length-le}
 use lib.Seq.{take-length, take-take, drop-drop, length-take-le, sets-eq}
 use Rattle.laws.specs.Parts.{part, put}
 use Rattle.laws.proofs.Parts.{length-part}

@@ -35,10 +35,12 @@ use Rattle.memory.proofs.Fills.{lock-fresh, fill-value}
 module _ (map : List ℕ) (bank : ℕ) (l : Record) (q : LockRecord map bank l) where
   is-lock : isLock l ≡ true
   is-lock =
-      rw (eq-eqb (l .first) 0x02 (q .its-first),
-      eq-eqb (l .width) 1 (q .its-width),
-      eq-eqb (l .kind) 2 (q .its-kind),
-      eq-eqb (l .lockable) 0 (q .no-lock))
+      rw (
+        eq-eqb (l .first) 0x02 (q .its-first),
+        eq-eqb (l .width) 1 (q .its-width),
+        eq-eqb (l .kind) 2 (q .its-kind),
+        eq-eqb (l .lockable) 0 (q .no-lock),
+      )
 
   -- a fill that chooses the lock record is one that locks the bank
   lock-chosen : (store : List ℕ) (filling : Filling)
@@ -104,6 +106,6 @@ fill-keeps-rule map store image s filling g e c =
     ⊎-elim (λ z. absurd (n z)) (λ z. ap (locksBank rs store filling) b ∙ z) c in
     let same : lockByte rs after (r .bank) ≡ lockByte rs store (r .bank) =
     fill-locks map store image s filling (r .bank) (writable-bank map (s .banks) r (h .0) (t .writes))
-    (mapped-member map (r .bank) .1 r (h .0) refl)
+    (mapped-member map (r .bank) .1 (r, h .0, refl))
     ∙ rw not-locked in
     ap (λ (x : ℕ). eqb (r .lockable) 0 || eqb x 0x55) same ∙ t .opens)

@@ -47,12 +47,14 @@ module _ (rs : List Record) (store : List ℕ) (r : Record) (small : r .width �
   at-next k bytes h e =
       record {
         takes =
-            rw (W,
-            U,
-            le-leb 1 k h,
-            eq-eqb (r .bank) (r .bank) refl,
-            eq-eqb (r .first) (r .first) refl,
-            eq-eqb (r .first + k) (r .first + k) refl)
+            rw (
+              W,
+              U,
+              le-leb 1 k h,
+              eq-eqb (r .bank) (r .bank) refl,
+              eq-eqb (r .first) (r .first) refl,
+              eq-eqb (r .first + k) (r .first + k) refl,
+            )
             (or-true (eqb (r .first + k) (r .first)));
         with = λ b. rw (ne-eqb k 0 (omega arith));
         eight = e;

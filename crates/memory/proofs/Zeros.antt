@@ -68,7 +68,7 @@ set-next bytes i b h e =
     let t : length (take i bytes) ≡ i = length-take-le i bytes (omega arith) in
     let n : length (take i bytes ++ b ∷ []) ≡ length (take i bytes) + 1 = length-append (take i bytes) (b ∷ []) in
     let d : length (drop (i + 1) bytes) ≡ 8 - length (take i bytes ++ b ∷ []) =
-        length-drop (i + 1) bytes ∙ omega arith in
+    length-drop (i + 1) bytes ∙ omega arith in
     let z : drop (i + 1) bytes ≡ replicate (8 - length (take i bytes ++ b ∷ [])) 0 =
     unused (i + 1) bytes (zero-rest bytes i h e) ∙ ap (λ (k : ℕ). replicate k 0) d in
     set-split bytes i b (omega arith)

@@ -40,7 +40,7 @@ pub record ChangesOnly (map store after : List ℕ) (changed : Record → Type 0
   pub checks : (kept : ℕ) → checkNumber map after kept ≡ checkNumber map store kept
 
 -- and so what stood stands
-abbrev pub StandsStays : Type 0
+abbrev pub StandsStays : Type 1
 StandsStays =
     (map store after : List ℕ) (kept : ℕ) (changed : Record → Type 0) → ChangesOnly map store after changed
     → Stands map store kept → Stands map after kept

@@ -57,19 +57,24 @@ pub +fill-from-spec : {M : Type 1} → statement M
     let rest = c .before .before .before .before in
     let read = rest .before .before .before .before in
     let start = read .before .before .before .before .before .before in
-    fits _ _ _ (start .args .filling) _ (read .before .before .records .ensures) _ (read .before .if1 .taken) _ (read .record-at .ensures)
-    (start .pre .1 .0) (start .pre .1 .1) _ (rest .fill-from .kept .1 .0))
+    fits (now (start .args .map)) (now (start .args .store)) (now (start .args .image)) (start .args .filling)
+    _ (read .before .before .records .ensures) _ (read .before .if1 .taken) _ (read .record-at .ensures)
+    (start .pre .1 .0) (start .pre .1 .1) (rest .fill-from .last .1 .0) (rest .fill-from .kept .1 .0))
     (λ c. search needs)
     (λ c.
     let rest = c .before .before .before .before .before .before .before in
     let read = rest .before .before .before .before in
-    fill-chosen _ _ _ _ _ (read .before .before .records .ensures) _ (read .before .if1 .taken) _ (read .record-at .ensures)
-    _ (rest .before .before .is-chosen .ensures) _ (rest .fill-from .ensures) (c .before .before .before .before .if2 .taken)
-    _ (c .before .before .freshen .ensures))
+    fill-chosen _ _ _ _ _ (read .before .before .records .ensures) _ (read .before .if1 .taken)
+    _ (read .record-at .ensures) _ (rest .before .before .is-chosen .ensures)
+    _ (rest .fill-from .ensures) (c .before .before .before .before .if2 .taken) _ (c .before .before .freshen .ensures))
     (λ c. search needs)
     (λ c.
     let rest = c .before .before .before in
     let read = rest .before .before .before .before in
-    fill-passed _ _ _ _ _ (read .before .before .records .ensures) _ (read .before .if1 .taken) _ (read .record-at .ensures)
-    _ (rest .before .before .is-chosen .ensures) _ (rest .fill-from .ensures) (c .if2 .left))
-    (λ c. fill-end _ _ _ _ _ (c .before .records .ensures) _ (c .if1 .left))
+    fill-passed _ _ _ _ _ (read .before .before .records .ensures) _ (read .before .if1 .taken)
+    _ (read .record-at .ensures) _ (rest .before .before .is-chosen .ensures)
+    _ (rest .fill-from .ensures) (c .if2 .left))
+    (λ c.
+    let start = c .before .before .before .before .before in
+    fill-end (now (start .args .map)) (now (start .args .store)) (now (start .args .image)) (start .args .filling)
+    _ (c .before .records .ensures) _ (c .if1 .left))

@@ -12,4 +12,5 @@ is-taken-spec =
     (λ c κs. search needs)
     (λ c κs. search needs)
     (λ c κs. search needs)
-    (λ c. cc))
+    (λ c.
+    rw (c .before .before .before .is-writable .ensures, c .before .before .is-unlocked .ensures, c .before .is-next .ensures)))

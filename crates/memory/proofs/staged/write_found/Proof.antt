@@ -9,8 +9,8 @@ use Rattle.memory.proofs.staged.write_found.Tie as tie
 returns : tie.Need-returns
 unfolding writeFound
 returns c =
-    let branch = c .before .before .before .before in
-    rw (sym (branch .before .is-taken .ensures) ∙ branch .if1 .taken) (c .before .before .take-byte .ensures)
+    rw (sym (c .before .before .before .before .before .is-taken .ensures) ∙ c .before .before .before .before .if1 .taken)
+    (c .before .before .take-byte .ensures)
 
 returns-2 : tie.Need-returns-2
 unfolding writeFound
