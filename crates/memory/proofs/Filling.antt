@@ -19,9 +19,14 @@ use Rattle.memory.specs.declared.filled.Filling.{Filling}
 
 -- of a map of n records
 module _ (map store image : List ℕ) (filling : Filling) (n : ℕ) (k : n ≡ length map / 8) (i : ℕ) where
-  pub fill-end : n ≤ i → store ≡ filledFrom map store image filling i
-  fill-end h =
-      sym (ap (filledBy (chosen (recordsOf map) store filling) image store) (at-end map (length map / 8) i (omega arith)))
+  abbrev such : Record → Bool
+  such r = chosen (recordsOf map) store filling r
+
+  abbrev after : ℕ → List ℕ
+  after j = filledFrom map store image filling j
+
+  pub fill-end : n ≤ i → store ≡ after i
+  fill-end h = sym (ap (filledBy such image store) (at-end map (length map / 8) i (omega arith)))
 
   module _ (h : i < n) (r : Record) (e : r ≡ recordAt map i) where
     -- the value of record number i can be put into a store as long as this one, from an image as long
@@ -33,15 +38,14 @@ module _ (map store image : List ℕ) (filling : Filling) (n : ℕ) (k : n ≡ l
         let w = member-inside map (length store) p r m in
         (f .some-width, omega arith, omega arith)
 
-    module _ (b : Bool) (q : b ≡ chosen (recordsOf map) store filling r)
-        (s : List ℕ) (rest : s ≡ filledFrom map store image filling (i + 1)) where
-      this : (l : List ℕ) → l ≡ (if b then putValue r (fresh image r) s else s) → l ≡ filledFrom map store image filling i
+    module _ (b : Bool) (q : b ≡ chosen (recordsOf map) store filling r) (s : List ℕ) (rest : s ≡ after (i + 1)) where
+      this : (l : List ℕ) → l ≡ (if b then putValue r (fresh image r) s else s) → l ≡ after i
       this l c =
-          let such : Record → Bool = chosen (recordsOf map) store filling in
-          c ∙ rw (q, rest) (sym (ap (filledBy such image store) (items-cons (recordAt map) i (length map / 8) (omega arith) r e)))
+          let cons = items-cons (recordAt map) i (length map / 8) (omega arith) r e in
+          c ∙ rw (q, rest) (sym (ap (filledBy such image store) cons))
 
-      pub fill-chosen : b ≡ true → (l : List ℕ) → l ≡ putValue r (fresh image r) s → l ≡ filledFrom map store image filling i
+      pub fill-chosen : b ≡ true → (l : List ℕ) → l ≡ putValue r (fresh image r) s → l ≡ after i
       fill-chosen t l c = this l (rw t c)
 
-      pub fill-passed : b ≡ false → s ≡ filledFrom map store image filling i
+      pub fill-passed : b ≡ false → s ≡ after i
       fill-passed t = this s (rw t)

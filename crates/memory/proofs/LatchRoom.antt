@@ -20,7 +20,7 @@ use Rattle.banks.specs.declared.holder.Found.{Found}
 use Rattle.banks.specs.declared.holder.Found.the-variants.{At, Nothing}
 use Rattle.banks.proofs.Members.{placed-ordered}
 use Rattle.banks.proofs.Locations.{first-found, holder-within}
-use Rattle.memory.specs.Latched.{noneLatched, padded, latchFrom, latches, showByte, readAt, readOf}
+use Rattle.memory.specs.Latched.{padded, latchFrom, latches, showByte, readAt, readOf}
 use Rattle.memory.specs.Rooms.{zeroFrom, latchedIn, latchHolds}
 use Rattle.memory.specs.Promises.{NoneLatchedHolds, ReadKeepsRule, ReadLatched}
 use Rattle.memory.specs.declared.latched.Latch.{Latch}

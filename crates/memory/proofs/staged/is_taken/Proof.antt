@@ -13,4 +13,8 @@ is-taken-spec =
     (λ c κs. search needs)
     (λ c κs. search needs)
     (λ c.
-    rw (c .before .before .before .is-writable .ensures, c .before .before .is-unlocked .ensures, c .before .is-next .ensures)))
+    rw (
+      c .before .before .before .is-writable .ensures,
+      c .before .before .is-unlocked .ensures,
+      c .before .is-next .ensures,
+    )))

@@ -9,7 +9,8 @@ use Rattle.memory.proofs.staged.write_found.Tie as tie
 returns : tie.Need-returns
 unfolding writeFound
 returns c =
-    rw (sym (c .before .before .before .before .before .is-taken .ensures) ∙ c .before .before .before .before .if1 .taken)
+    rw (sym (c .before .before .before .before .before .is-taken .ensures)
+    ∙ c .before .before .before .before .if1 .taken)
     (c .before .before .take-byte .ensures)
 
 returns-2 : tie.Need-returns-2
