@@ -13,10 +13,8 @@ use Rattle.laws.proofs.Tests.{if-eq, both}
 use Rattle.banks.specs.Map.{writable}
 use Rattle.memory.specs.Promises.{ChangesOnly}
 use Rattle.unit.specs.State.{zeroState}
-use Rattle.unit.specs.Step.{unless}
-use Rattle.unit.specs.Step.{startOf, powerNumber, powerOnOf, stepOf}
-use Rattle.unit.specs.Keeping.{Store-kept, OneValue, One-value-changes}
-use Rattle.unit.specs.Keeping.{Calls-power-on}
+use Rattle.unit.specs.Step.{startOf, powerNumber, powerOnOf, stepOf, unless}
+use Rattle.unit.specs.Keeping.{Store-kept, OneValue, One-value-changes, Calls-power-on}
 use Rattle.unit.specs.Keeping.{PassesAgain, Accepted-again, AllAccepted, isInput, Run-accepted}
 use Rattle.unit.specs.Run.{Input, power-on, hears, inputOf}
 use Rattle.unit.specs.Promises.{numberOf}

@@ -125,7 +125,7 @@ module _ (map store image : List ℕ) (s : State) (heard : Heard) (S : Sound map
   staged = hearing s closing .door .staged
 
   staged-holds : stagedHolds (recordsOf map) store staged ≡ true
-  staged-holds = heard-staged map store image s heard place (S .standing .as-long) (S .rules) closing
+  staged-holds = heard-staged map store image s heard place (S .rules) closing
 
   pub record Changes (due : Due) (after : List ℕ) : Type 0 where
     pub writable-only : ChangesOnly map store after (λ r. writable r ≡ true)
@@ -165,7 +165,7 @@ module _ (map store image : List ℕ) (s : State) (heard : Heard) (S : Sound map
   frame-sound =
       record {
         standing = stands-after map store (framed .store) (length image) _ (changes .writable-only) (S .standing);
-        rules = frame-keeps map store image s heard place (S .standing .as-long) (S .rules);
+        rules = frame-keeps map store image s heard place (S .rules);
       }
 
 module _ (map store image : List ℕ) (who : Who) (S : Stands map store (length image)) where

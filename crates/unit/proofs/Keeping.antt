@@ -66,7 +66,7 @@ unfolding doorHolds
 door-staged rs store s e = and-right (s .door .enabled || eqb (s .door .staged .count) 0) _ e
 
 module _ (map store image : List ℕ) (s : State) (heard : Heard) (place : placed map (length store) ≡ true)
-    (long : length image ≡ length store) (h : RulesHold (recordsOf map) store s) where
+    (h : RulesHold (recordsOf map) store s) where
   abbrev acted : Bool → Due → Outcome Stepped
   acted closing due = done (recordsOf map) store image (hearing s closing) heard due
 
