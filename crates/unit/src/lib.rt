@@ -2,7 +2,17 @@
 mod state; // the rooms
 mod rules; // 12: the rules of a state
 mod due; // what a frame makes happen now
+mod acts; // what is due is done
+mod calls; // start, power-on, a frame step, and their numbers
 
+pub use calls::frame_step;
+pub use calls::power_number;
+pub use calls::power_on;
+pub use calls::power_step;
+pub use calls::start;
+pub use calls::start_number;
+pub use calls::step;
+pub use calls::step_number;
 pub use due::Due;
 pub use due::due_by;
 pub use rules::address_holds;

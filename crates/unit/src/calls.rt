@@ -1,0 +1,122 @@
+// Start, power-on, a frame step, and their numbers.
+ghost use mathlib.Core.Path.{_≡_};
+ghost use mathlib.Core.Bool.{true};
+ghost use lib.ListN.{length};
+ghost use Rattle.laws.specs.Outcome.{Gives};
+ghost use Rattle.banks.specs.Map.{recordsOf};
+ghost use Rattle.banks.specs.Rules.{placed};
+ghost use Rattle.unit.specs.Step.{frameOf, powerOf, stepNumber, powerNumber, startNumber};
+ghost use Rattle.unit.specs.Step.{stepOf, powerOnOf, startOf};
+use crate::acts::act;
+use crate::acts::hear;
+use crate::due::due_by;
+use crate::rules::address_holds;
+use crate::rules::state_holds;
+use crate::state::State;
+use crate::state::Stepped;
+use crate::state::powered_on;
+use crate::state::quiet;
+use crate::state::refusing;
+use frames::Reading;
+use hearing::Heard;
+use hearing::Who;
+use memory::Filling;
+
+// Internal: a frame step on a map, store and state that keep the rules. Whoever runs many frames checks once, and then
+// calls this. A reserved frame goes straight to clearing the waiting one.
+pub fn frame_step(map: &[u8], store: &mut [u8], image: &[u8], state: State, heard: Heard) -> Stepped
+    requires { ⌜ (placed (now map) (length (now store)) ≡ true) × (length (now image) ≡ length (now store)) ⌝ }
+    ensures { λ r. ⌜ Gives r (now (store .exit)) (frameOf (recordsOf (now (map .entry))) (now (store .entry)) (now (image .entry)) state heard) ⌝ }
+{
+    let Reading::Got(message) = frames::read(heard.frame) else {
+        return quiet(hear(state, false));
+    };
+    let who = state.who;
+    let meaning = hearing::message_meaning(who, message);
+    let due = due_by(map, state, heard, meaning);
+    let open = hear(state, hearing::closes(meaning));
+    act(map, store, image, open, heard, due)
+}
+
+// Internal: a power-on on a map and store that keep the rules.
+pub fn power_step(map: &[u8], store: &mut [u8], image: &[u8], who: Who) -> Stepped
+    requires { ⌜ (placed (now map) (length (now store)) ≡ true) × (length (now image) ≡ length (now store)) ⌝ }
+    ensures { λ r. ⌜ Gives r (now (store .exit)) (powerOf (recordsOf (now (map .entry))) (now (store .entry)) (now (image .entry)) who) ⌝ }
+{
+    memory::fill_store(map, store, image, Filling::PowerOn);
+    quiet(powered_on(who))
+}
+
+// The number of a power-on: 7 to 12, or 0.
+pub fn power_number(map: &[u8], store: &[u8], image: &[u8], state: State) -> u8
+    ensures { λ r. ⌜ r ≡ powerNumber (now (map .entry)) (now (store .entry)) (length (now (image .entry))) state ⌝ }
+{
+    let number = banks::check(map, store, image);
+    if number != 0 {
+        return number;
+    }
+    if state_holds(map, store, state) {
+        0
+    } else {
+        12
+    }
+}
+
+// The number of a frame step: 7 to 12, then 1, or 0.
+pub fn step_number(map: &[u8], store: &[u8], image: &[u8], state: State, frame: u32) -> u8
+    ensures { λ r. ⌜ r ≡ stepNumber (now (map .entry)) (now (store .entry)) (length (now (image .entry))) state frame ⌝ }
+{
+    let number = power_number(map, store, image, state);
+    if number != 0 {
+        return number;
+    }
+    if frame < 16777216 { 0 } else { 1 }
+}
+
+// The number of a start: 7 to 11, then 6, or 0.
+pub fn start_number(map: &[u8], store: &[u8], image: &[u8], who: Who) -> u8
+    ensures { λ r. ⌜ r ≡ startNumber (now (map .entry)) (now (store .entry)) (length (now (image .entry))) who ⌝ }
+{
+    let number = banks::check(map, store, image);
+    if number != 0 {
+        return number;
+    }
+    if address_holds(who.address) { 0 } else { 6 }
+}
+
+pub fn step(map: &[u8], store: &mut [u8], image: &[u8], state: State, heard: Heard) -> Stepped
+    ensures { λ r. ⌜ Gives r (now (store .exit)) (stepOf (now (map .entry)) (now (store .entry)) (now (image .entry)) state heard) ⌝ }
+{
+    let number = step_number(map, store, image, state, heard.frame);
+    if number != 0 {
+        return refusing(state, number);
+    }
+    frame_step(map, store, image, state, heard)
+}
+
+// A later power-on: address and groups stay.
+pub fn power_on(map: &[u8], store: &mut [u8], image: &[u8], state: State) -> Stepped
+    ensures { λ r. ⌜ Gives r (now (store .exit)) (powerOnOf (now (map .entry)) (now (store .entry)) (now (image .entry)) state) ⌝ }
+{
+    let number = power_number(map, store, image, state);
+    if number != 0 {
+        return refusing(state, number);
+    }
+    let who = state.who;
+    power_step(map, store, image, who)
+}
+
+// A refused start's state is all zeros.
+pub fn start(map: &[u8], store: &mut [u8], image: &[u8], who: Who) -> Stepped
+    ensures { λ r. ⌜ Gives r (now (store .exit)) (startOf (now (map .entry)) (now (store .entry)) (now (image .entry)) who) ⌝ }
+{
+    let number = start_number(map, store, image, who);
+    if number != 0 {
+        let nobody = Who {
+            address: 0,
+            groups: 0,
+        };
+        return refusing(powered_on(nobody), number);
+    }
+    power_step(map, store, image, who)
+}
