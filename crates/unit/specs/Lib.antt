@@ -8,3 +8,4 @@ pub mod Leaving
 pub mod Keeping
 pub mod Bench
 pub mod Cases
+pub mod Worked
