@@ -1,7 +1,7 @@
 -- The word of a message gives the message back, and no other word does.
 -- Assumes nothing.
 use mathlib.Core.Path.{_≡_, refl, _∙_, sym, ap, subst}
-use Prim.Native.Nat.{ℕ, _+_, _*_, _^_, _<_}
+use Prim.Native.Nat.{ℕ, _+_, _-_, _*_, _^_, _<_}
 use native.Mathlib.Omega.{arith}
 use lib.Dec.{lit≤, lit<}
 use borrow.Author.Tests.{eq-eqb}
@@ -69,7 +69,7 @@ gives m k a b c d e f sum hk ha hb hc hd he hf at = go (wordOf (Reading.Got m)) 
     go : (w : ℕ) → wordOf (Reading.Got m) ≡ w → w ≡ k * 2 ^ 48 + sixBytes a b c d e f → messageOf w ≡ Reading.Got m
     go w own eq =
         simp (
-          bits-is w 55 48 0 k (a * 2 ^ 40 + b * 2 ^ 32 + c * 2 ^ 24 + d * 2 ^ 16 + e * 2 ^ 8 + f) (omega arith) hk (omega arith),
+          bits-is w 55 48 0 k (w - k * 2 ^ 48) (omega arith) hk (omega arith),
           bits-is w 47 40 k a (b * 2 ^ 32 + c * 2 ^ 24 + d * 2 ^ 16 + e * 2 ^ 8 + f) (omega arith) ha (omega arith),
           bits-is w 39 32 (k * 256 + a) b (c * 2 ^ 24 + d * 2 ^ 16 + e * 2 ^ 8 + f) (omega arith) hb (omega arith),
           bits-is w 31 24 (k * 2 ^ 16 + a * 256 + b) c (d * 2 ^ 16 + e * 2 ^ 8 + f) (omega arith) hc (omega arith),

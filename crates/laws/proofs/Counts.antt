@@ -13,7 +13,8 @@ module _ (f : ℕ → Bool) where
   from zero i t k h = absurd (not-suc-le-zero h)
   from (suc n) i t zero h = subst (λ (m : ℕ). f m ≡ true) (sym (add-zero i)) (both (f i) _ t .0)
   from (suc n) i t (suc k) h =
-      subst (λ (m : ℕ). f m ≡ true) (suc-add i k ∙ sym (add-suc i k)) (from n (suc i) (both (f i) _ t .1) k (le-of-suc-le-suc h))
+      subst (λ (m : ℕ). f m ≡ true) (suc-add i k ∙ sym (add-suc i k))
+      (from n (suc i) (both (f i) _ t .1) k (le-of-suc-le-suc h))
 
   pub at-each : (n : ℕ) → every f (below n) ≡ true → (k : ℕ) → k < n → f k ≡ true
   at-each n t k h = subst (λ (m : ℕ). f m ≡ true) (zero-add k) (from n 0 t k h)
