@@ -11,9 +11,11 @@ use Rattle.banks.specs.Look.{lookNumber, lookOf, lookBytes}
 use Rattle.banks.specs.Cases.{CheckCases, LookCases}
 
 pub check-cases : CheckCases
-unfolding CheckCases checkNumber firstFailing sizeHolds recordsOf recordAt placesHold lengthsHold banksHold bankHolds headBytesHold headHolds headByteHolds
+unfolding CheckCases checkNumber firstFailing sizeHolds recordsOf recordAt placesHold lengthsHold banksHold bankHolds
+    headBytesHold headHolds headByteHolds
 check-cases = refl
 
 pub look-cases : LookCases
-unfolding lookBytes lookOf lookNumber firstFailing sizeHolds recordsOf recordAt placesHold lengthsHold banksHold bankHolds headBytesHold headHolds headByteHolds beginner ifFirst holder part
+unfolding lookBytes lookOf lookNumber firstFailing sizeHolds recordsOf recordAt placesHold lengthsHold banksHold bankHolds
+    headBytesHold headHolds headByteHolds beginner ifFirst holder part
 look-cases = record { numbers = refl; places = refl; bytes = refl }

@@ -34,8 +34,8 @@ single-lock r e = (search (and-left, and-right, eqb-true), search (and-left, and
 
 module _ (such : Record → Bool) (location : ℕ) (single : Single such location) (map : List ℕ) (bank : ℕ) where
   -- the bank's record that passes the test, and that it holds the location
-  pub has-this : bankHas such (recordsOf map) bank ≡ true → (r : Record) × Member r map × Holds r bank location
-      × (such r ≡ true)
+  pub has-this : bankHas such (recordsOf map) bank ≡ true
+      → (r : Record) × Member r map × Holds r bank location × (such r ≡ true)
   has-this e =
       let x = some-at (λ r. eqb (r .bank) bank && such r) (recordsOf map) e in
       let b = both (eqb (x .0 .bank) bank) (such (x .0)) (x .2) in
@@ -45,8 +45,8 @@ module _ (such : Record → Bool) (location : ℕ) (single : Single such locatio
       (x .0, x .1, record { same-bank = eqb-true (x .0 .bank) bank (b .0); from = omega arith; to = omega arith }, b .1)
 
   -- it is the one that the look-up finds there
-  pub has-at : ordered map ≡ true → (r : Record) → holder (recordsOf map) bank location ≡ At r → bankHas such
-      (recordsOf map) bank ≡ such r
+  pub has-at : ordered map ≡ true → (r : Record) → holder (recordsOf map) bank location ≡ At r
+      → bankHas such (recordsOf map) bank ≡ such r
   has-at o r e =
       let k = holder-at bank location (recordsOf map) r e in
       same-test (bankHas such (recordsOf map) bank) (such r)
@@ -83,17 +83,15 @@ bank-said : (map : List ℕ) → banksHold (recordsOf map) ≡ true → (r : Rec
     → (if eqb (r .bank) 0 then not (writable r) else bankHas isLock (recordsOf map) (r .bank)) ≡ true
 unfolding banksHold bankHolds
 bank-said map b r m =
-    both (bankHas isHead (recordsOf map) (r .bank)) (if eqb (r .bank) 0 then not (writable r) else bankHas isLock
-    (recordsOf map) (r .bank))
-    (every-at (bankHolds (recordsOf map)) (recordsOf map) b r m) .1
+    and-right (bankHas isHead (recordsOf map) (r .bank)) _
+    (every-at (bankHolds (recordsOf map)) (recordsOf map) b r m)
 
 pub has-lock : HasLock
 has-lock map o b bank h e =
     let x = mapped-member map bank .0 e in
     let other : (x .0 .bank ≡ 0 → ⊥) = λ z. omega (arith, x .2) in
-    let some : bankHas isLock (recordsOf map) (x .0 .bank) ≡ true = rw (ne-eqb (x .0 .bank) 0 other) at
-    (bank-said map b (x .0) (x .1)) in
-    let l = has-this isLock 0x02 single-lock map bank (rw (x .2) at some) in
+    let some = rw (ne-eqb (x .0 .bank) 0 other, x .2) at (bank-said map b (x .0) (x .1)) in
+    let l = has-this isLock 0x02 single-lock map bank some in
     (l .0, lock-is map bank (l .0) (l .1) (l .2 .same-bank) (l .3), holder-hit map o bank 0x02 (l .0) (l .1) (l .2))
 
 pub writable-bank : WritableBank

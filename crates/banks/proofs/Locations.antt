@@ -36,14 +36,13 @@ is-holding r bank location h =
     rw (
       eq-eqb (r .bank) bank (h .same-bank),
       le-leb (r .first) location (h .from),
-      lt-ltb location (locationsEnd r)
-          (h .to),
+      lt-ltb location (locationsEnd r) (h .to),
     )
 
 module _ (bank location : ℕ) where
   -- what is found is a member, and holds the location
-  pub holder-at : (rs : List Record) (r : Record) → holder rs bank location ≡ At r → List·Memᴰ r rs
-      × (holds r bank location ≡ true)
+  pub holder-at : (rs : List Record) (r : Record) → holder rs bank location ≡ At r
+      → List·Memᴰ r rs × (holds r bank location ≡ true)
   unfolding holder
   holder-at [] r e = let z : _≡_ {A = ℕ} 0 1 = cc in absurd (omega arith)
   holder-at (x ∷ rs) r e =
@@ -81,8 +80,9 @@ module _ (bank location : ℕ) where
       rw (ap (λ (y : Record). holds y bank location) (sym p) ∙ t) (ap At (sym p))
   rising-hit (x ∷ rs) u r (List·Memᴰ·tail m) t =
       if-by (λ (f : Found). f ≡ At r) (holds x bank location)
-      (λ q. not-both x r (before-is x r (every-at (before x) rs (rising-all x rs u) r m)) (holds-is x bank location q)
-      (holds-is r bank location t))
+      (λ q.
+      let first = before-is x r (every-at (before x) rs (rising-all x rs u) r m) in
+      not-both x r first (holds-is x bank location q) (holds-is r bank location t))
       (λ q. rising-hit rs (rising-tail x rs u) r m t)
 
 pub holder-is-none : HolderNone
@@ -128,6 +128,6 @@ pub first-found : FirstFound
 unfolding beginner ifFirst
 first-found map o r m =
     let f = member-fields map o r m in
-    let e = holder-hit map o (r .bank) (r .first) r m
-    (record { same-bank = refl; from = omega arith; to = omega arith }) in
+    let here : Holds r (r .bank) (r .first) = record { same-bank = refl; from = omega arith; to = omega arith } in
+    let e = holder-hit map o (r .bank) (r .first) r m here in
     (e, rw (e, eq-eqb (r .first) (r .first) refl))

@@ -72,9 +72,8 @@ rising-all p (r ∷ rs) e =
     let b = both (before p r) (risingFrom r rs) e in
     let after = rising-all r rs (b .1) in
     and-of (before p r) (every (before p) rs) (b .0)
-    (every-of (before p) rs
-    (λ x m. is-before p x (before-trans p r x (before-is p r (b .0))
-    (before-is r x (every-at (before r) rs after x m)))))
+    (every-of (before p) rs (λ x m.
+    is-before p x (before-trans p r x (before-is p r (b .0)) (before-is r x (every-at (before r) rs after x m)))))
 
 pub rising-tail : (p : Record) (rs : List Record) → risingFrom p rs ≡ true → rising rs ≡ true
 rising-tail p [] e = refl
@@ -92,15 +91,17 @@ other-way : (p r : Record) → Apart p r → Apart r p
 other-way p r (inl h) = inr h
 other-way p r (inr h) = inl h
 
+rest-apart : (x : Record) (rs : List Record) → disjoint (x ∷ rs) ≡ true → (p r : Record) → p ≡ x → List·Memᴰ r rs
+    → Apart p r
+rest-apart x rs e p r a m =
+    let c = clear-apart x r (every-at (clear x) rs (both (every (clear x) rs) (disjoint rs) e .0) r m) in
+    subst (λ (y : Record). Apart y r) (sym a) c
+
 disjoint-apart : (rs : List Record) → disjoint rs ≡ true → (p r : Record) → List·Memᴰ p rs → List·Memᴰ r rs
     → (p ≡ r) ⊎ Apart p r
 disjoint-apart (x ∷ rs) e p r (List·Memᴰ·head a) (List·Memᴰ·head b) = inl (a ∙ sym b)
-disjoint-apart (x ∷ rs) e p r (List·Memᴰ·head a) (List·Memᴰ·tail m) =
-    inr (subst (λ (y : Record). Apart y r) (sym a) (clear-apart x r
-    (every-at (clear x) rs (both (every (clear x) rs) (disjoint rs) e .0) r m)))
-disjoint-apart (x ∷ rs) e p r (List·Memᴰ·tail m) (List·Memᴰ·head b) =
-    inr (other-way r p (subst (λ (y : Record). Apart y p) (sym b)
-    (clear-apart x p (every-at (clear x) rs (both (every (clear x) rs) (disjoint rs) e .0) p m))))
+disjoint-apart (x ∷ rs) e p r (List·Memᴰ·head a) (List·Memᴰ·tail m) = inr (rest-apart x rs e p r a m)
+disjoint-apart (x ∷ rs) e p r (List·Memᴰ·tail m) (List·Memᴰ·head b) = inr (other-way r p (rest-apart x rs e r p b m))
 disjoint-apart (x ∷ rs) e p r (List·Memᴰ·tail m) (List·Memᴰ·tail k) =
     disjoint-apart rs (both (every (clear x) rs) (disjoint rs) e .1) p r m k
 
@@ -125,11 +126,11 @@ module _ (item : ℕ → Record) where
   rise : (n k i j : ℕ) → rising (items item k n) ≡ true → i < j → j < n → Before (item (k + i)) (item (k + j))
   rise zero k i j u h l = absurd (omega arith)
   rise (suc n) k zero j u h l =
-      let later = items-member item (suc k) n (j - 1) (omega arith) in
-      let all = rising-all (item k) (items item (suc k) n) u in
-      let is = before-is (item k) (item (suc k + (j - 1))) (every-at (before (item k)) (items item (suc k) n) all
-      (item (suc k + (j - 1))) later) in
-      renumbered k (suc k + (j - 1)) (k + 0) (k + j) (omega arith) (omega arith) is
+      let later = suc k + (j - 1) in
+      let rest = items item (suc k) n in
+      let there = items-member item (suc k) n (j - 1) (omega arith) in
+      let t = every-at (before (item k)) rest (rising-all (item k) rest u) (item later) there in
+      renumbered k later (k + 0) (k + j) (omega arith) (omega arith) (before-is (item k) (item later) t)
   rise (suc n) k (suc i) j u h l =
       let is = rise n (suc k) i (j - 1) (rising-tail (item k) (items item (suc k) n) u) (omega arith) (omega arith) in
       renumbered (suc k + i) (suc k + (j - 1)) (k + suc i) (k + j) (omega arith) (omega arith) is

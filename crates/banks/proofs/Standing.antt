@@ -17,8 +17,8 @@ use Rattle.banks.specs.Rules.{banksHold, headBytesHold, checkTests, chec
 use Rattle.banks.specs.Facts.{Stands}
 use Rattle.banks.specs.Promises.{CheckNumbers, CheckStands, CheckSettled}
 
-pub ordered-of : (map : List ℕ) → sizeHolds (length map) ≡ true → every fieldsHold (recordsOf map) ≡ true → rising
-    (recordsOf map) ≡ true
+pub ordered-of : (map : List ℕ)
+    → sizeHolds (length map) ≡ true → every fieldsHold (recordsOf map) ≡ true → rising (recordsOf map) ≡ true
     → ordered map ≡ true
 unfolding ordered
 ordered-of map a b c = rw (a, b, c)
@@ -42,8 +42,8 @@ stands map store kept e =
     let fields = both (every fieldsHold rs) _ (size .1) in
     let rise = both (rising rs) _ (fields .1) in
     let places = both (placesHold rs (length store) kept) _ (rise .1) in
-    let banks = both (banksHold rs) (headBytesHold rs store)
-    (both (banksHold rs && headBytesHold rs store) true (places .1) .0) in
+    let eleven = both (banksHold rs && headBytesHold rs store) true (places .1) in
+    let banks = both (banksHold rs) (headBytesHold rs store) (eleven .0) in
     let o = ordered-of map (size .0) (fields .0) (rise .0) in
     record {
       in-order = o;
@@ -60,8 +60,8 @@ is-standing map store kept s =
     let size = both (sizeHolds (length map)) _ (s .in-order) in
     let fields = both (every fieldsHold rs) (rising rs) (size .1) in
     let places = both (ordered map) (placesHold rs (length store) (length store)) (s .in-place) in
-    none-exactly-if (checkTests map store kept) refl .1 (rw
-    (s .as-long, size .0, fields .0, fields .1, places .1, s .banks, s .heads))
+    none-exactly-if (checkTests map store kept) refl .1
+    (rw (s .as-long, size .0, fields .0, fields .1, places .1, s .banks, s .heads))
 
 pub check-stands : CheckStands
 check-stands map store kept = (stands map store kept, is-standing map store kept)

@@ -16,6 +16,7 @@ use Rattle.banks.specs.declared.holder.Found.{Found}
 use Rattle.banks.specs.declared.holder.Found.the-variants.{At, Nothing}
 use Rattle.banks.specs.declared.looked.Looked.{Looked}
 
+-- a value was found
 abbrev pub isFound : Found → Bool
 isFound (At r) = true
 isFound Nothing = false
@@ -28,10 +29,11 @@ lookTests map store bank location =
 unfoldable pub lookNumber : List ℕ → List ℕ → ℕ → ℕ → ℕ
 lookNumber map store bank location = firstFailing (lookTests map store bank location)
 
--- number, width and offset; a refusal has no place
+-- a refusal has no place
 abbrev pub refusedLook : ℕ → Looked
 refusedLook n = record { number = n; width = 0; offset = 0 }
 
+-- of each case its number and values: 0 with the width and offset of the value, or 14
 abbrev pub placeOf : Found → Looked
 placeOf (At r) = record { number = 0; width = r .width; offset = r .offset }
 placeOf Nothing = refusedLook 14

@@ -35,6 +35,13 @@ LookNumbers =
     (map store : List ℕ) (bank location n : ℕ) → 0 < n
     → (lookNumber map store bank location ≡ n) ↔ Given (lookTests map store bank location) n
 
+-- 0 is given exactly if everything stands, the store standing for the image, and a value begins there
+abbrev pub LookStands : Type 0
+LookStands =
+    (map store : List ℕ) (bank location : ℕ)
+    → (lookNumber map store bank location ≡ 0)
+    ↔ (Stands map store (length store) × ((r : Record) × Member r map × (r .bank ≡ bank) × (r .first ≡ location)))
+
 -- The records of a map.
 
 -- 8

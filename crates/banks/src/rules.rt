@@ -294,7 +294,7 @@ pub fn head_bytes_hold(map: &[u8], store: &[u8]) -> bool
     true
 }
 
-// The number of map, store and an image of `kept` bytes: 7 to 11, or 0. For those who have no image at hand.
+// Internal: the number of map, store and an image of `kept` bytes, for those who have no image at hand.
 pub fn check_number(map: &[u8], store: &[u8], kept: usize) -> u8
     ensures { λ r. ⌜ r ≡ checkNumber (now (map .entry)) (now (store .entry)) kept ⌝ }
 {

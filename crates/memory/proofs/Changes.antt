@@ -1,6 +1,6 @@
 -- What a write leaves of the store: all but the value whose last byte it is.
 -- Assumes nothing.
-use Prim.Native.Nat.{ℕ, _+_, _-_, _≤_}
+use Prim.Native.Nat.{ℕ, _+_, _-_}
 use mathlib.Core.Path.{_≡_, refl, ap, sym, _∙_, subst}
 use mathlib.Core.Bool.{Bool, true, false}
 use mathlib.Core.List.{List}
@@ -14,21 +14,30 @@ use Rattle.laws.proofs.Tests.{clash}
 use Rattle.banks.specs.Map.{recordsOf, writable}
 use Rattle.banks.specs.Rules.{placed}
 use Rattle.banks.specs.Lookup.{putValue}
-use Rattle.banks.specs.Facts.{Member, Within}
 use Rattle.banks.specs.declared.record.Record.{Record}
 use Rattle.banks.proofs.Locations.{holder-within}
+use Rattle.banks.proofs.Standing.{stands, is-standing}
 use Rattle.banks.proofs.Values.{value-put, check-stays-put}
-use Rattle.memory.specs.Staged.{bytesWith, writeOf}
+use Rattle.memory.specs.Staged.{bytesWith}
 use Rattle.memory.specs.Rooms.{stagedHolds}
-use Rattle.memory.specs.Promises.{ChangesOnly, Takes, TakesLast, WriteChangesOnly}
+use Rattle.memory.specs.Promises.{ChangesOnly, StandsStays, Takes, TakesLast, WriteChangesOnly}
 use Rattle.memory.specs.declared.staged.Staged.{Staged}
 use Rattle.memory.specs.declared.staged.Wrote.{Wrote}
 use Rattle.memory.proofs.Writes.{taken-is, write-cases}
 use Rattle.memory.proofs.StagedRoom.{staged-room}
 
+pub stands-stays : StandsStays
+stands-stays map store after kept changed c s = stands map after kept (c .checks kept ∙ is-standing map store kept s)
+
 unchanged : (map store : List ℕ) (changed : Record → Type 0) → ChangesOnly map store store changed
 unchanged map store changed =
-    record { as-long = refl; others = λ r m n. refl; read-only = λ r m n. refl; unmapped = λ j h. refl; checks = λ kept. refl }
+    record {
+      as-long = refl;
+      others = λ r m n. refl;
+      read-only = λ r m n. refl;
+      unmapped = λ j h. refl;
+      checks = λ kept. refl;
+    }
 
 eight : (g : Staged) (k byte : ℕ) → length (g .bytes) ≡ 8 → length (bytesWith g k byte) ≡ 8
 unfolding bytesWith
@@ -38,8 +47,8 @@ eight g k byte l = go (eqb k 0)
     go true = refl
     go false = length-set (g .bytes) k byte ∙ l
 
-module _ (map store : List ℕ) (p : placed map (length store) ≡ true) (g : Staged) (e : stagedHolds (recordsOf map) store g ≡ true)
-    (bank location byte : ℕ) where
+module _ (map store : List ℕ) (p : placed map (length store) ≡ true) (g : Staged)
+    (e : stagedHolds (recordsOf map) store g ≡ true) (bank location byte : ℕ) where
   abbrev changed : Record → Type 0
   changed r = TakesLast (recordsOf map) store g bank location r
 
@@ -66,4 +75,4 @@ pub write-changes-only : WriteChangesOnly
 write-changes-only map store p g e bank location byte =
     write-cases (recordsOf map) store g bank location byte
     (λ (o : Outcome Wrote). ChangesOnly map store (o .store) (TakesLast (recordsOf map) store g bank location))
-    (unchanged map store _) (λ r t n. unchanged map store _) (λ r t n. put-changes map store p g e bank location byte r t n)
+    (unchanged map store _) (λ r t n. unchanged map store _) (put-changes map store p g e bank location byte)

@@ -12,8 +12,8 @@ use Rattle.banks.specs.declared.holder.Found.the-variants.{At}
 use Rattle.banks.proofs.Locations.{holder-within}
 use Rattle.memory.specs.Reach.{Reaches}
 
-pub reaches : (map : List ℕ) (n bank location : ℕ) → placed map n ≡ true → (r : Record) → holder (recordsOf map) bank location ≡ At r
-    → Reaches n location r
+pub reaches : (map : List ℕ) (n bank location : ℕ) → placed map n ≡ true
+    → (r : Record) → holder (recordsOf map) bank location ≡ At r → Reaches n location r
 reaches map n bank location p r e =
     let w = holder-within map n bank location p r e in
     record { from = w .holds .from; to = w .holds .to; most-width = w .fields .most-width; inside = w .inside }

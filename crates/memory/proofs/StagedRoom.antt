@@ -1,16 +1,15 @@
 -- The rule of staged bytes, before and after a write; and so what the bytes are that a write stages or puts.
 -- Assumes nothing.
-use Prim.Native.Nat.{ℕ, suc, _+_, _-_, _≤_, _<_}
+use Prim.Native.Nat.{ℕ, _+_, _-_, _<_}
 use mathlib.Core.Path.{_≡_, refl, ap, sym, _∙_}
-use mathlib.Core.Logic.{_⊎_, inl, inr, ⊎-elim}
-use mathlib.Core.Bool.{Bool, true, false, _&&_}
-use mathlib.Core.List.{List, [], _∷_, _++_, append-assoc}
+use mathlib.Core.Logic.{⊎-elim}
+use mathlib.Core.Bool.{true}
+use mathlib.Core.List.{List, [], _∷_, _++_}
 use native.Mathlib.Omega.{arith}
-use native.Mathlib.Numerals.{add-one}
 use borrow.Author.Tests.{eq-eqb, ne-eqb, eqb-false, ltb-true, lt-ltb, le-leb}
-use lib.Dec.{leb, ltb, eqb}
-use lib.ListN.{length, take, drop, set, replicate, length-append, length-drop}
-use lib.Seq.{length-take-le, set-split, take-at, drop-drop}
+use lib.Dec.{eqb}
+use lib.ListN.{length, take, length-append}
+use lib.Seq.{length-take-le, take-at}
 use Rattle.laws.specs.Choice.{if_then_else_}
 use Rattle.laws.specs.Outcome.{Outcome, leaves}
 use Rattle.laws.proofs.Tests.{if-eq}
@@ -18,17 +17,18 @@ use Rattle.laws.proofs.Sides.{and-left, and-right, chosen}
 use Rattle.banks.specs.Map.{recordsOf, writable, locationsEnd}
 use Rattle.banks.specs.Rules.{placed}
 use Rattle.banks.specs.Lookup.{beginner, valueOf, putValue}
-use Rattle.banks.specs.Facts.{Member, Within}
+use Rattle.banks.specs.Facts.{Within}
 use Rattle.banks.specs.declared.record.Record.{Record}
 use Rattle.banks.specs.declared.holder.Found.{Found}
 use Rattle.banks.specs.declared.holder.Found.the-variants.{At, Nothing}
 use Rattle.banks.proofs.Members.{placed-ordered}
 use Rattle.banks.proofs.Locations.{first-found, holder-within}
 use Rattle.banks.proofs.Values.{value-put}
-use Rattle.memory.specs.Staged.{noneStaged, unlocked, taken, bytesWith, stagedOf, wrote, writeOf}
+use Rattle.memory.specs.Staged.{noneStaged, unlocked, bytesWith, stagedOf, wrote, writeOf}
 use Rattle.memory.specs.Latched.{padded}
 use Rattle.memory.specs.Rooms.{zeroFrom, stagedIn, stagedHolds}
-use Rattle.memory.specs.Promises.{Takes, TakesLast, bytesTo, NoneStagedHolds, WriteKeepsRule, WriteTakes, WriteValue}
+use Rattle.memory.specs.Promises.{Takes, bytesTo}
+use Rattle.memory.specs.Promises.{NoneStagedHolds, WriteKeepsRule, WriteTakes, WriteValue}
 use Rattle.memory.specs.declared.staged.Staged.{Staged}
 use Rattle.memory.specs.declared.staged.Wrote.{Wrote}
 use Rattle.memory.proofs.Zeros.{room-bytes, set-next, padded-zero}
@@ -51,7 +51,8 @@ module _ (rs : List Record) (store : List ℕ) (g : Staged) (e : stagedHolds rs 
   unfolding stagedHolds stagedIn
   staged-said n = go (beginner rs (g .bank) (g .first)) refl (rw (ne-eqb (g .count) 0 n) at e)
     where
-      go : (f : Found) → beginner rs (g .bank) (g .first) ≡ f → stagedIn rs store g f ≡ true → (r : Record) × StagedOf rs store g r
+      go : (f : Found) → beginner rs (g .bank) (g .first) ≡ f → stagedIn rs store g f ≡ true
+          → (r : Record) × StagedOf rs store g r
       go (At r) b t = (
         r,
         record {
@@ -71,7 +72,8 @@ module _ (rs : List Record) (store : List ℕ) (g : Staged) (e : stagedHolds rs 
       (λ q. room-bytes (g .count) (g .bytes) (staged-said (eqb-false (g .count) 0 (q .0)) .1 .zero))
       (chosen (eqb (g .count) 0) e)
 
-module _ (map store : List ℕ) (p : placed map (length store) ≡ true) (g : Staged) (e : stagedHolds (recordsOf map) store g ≡ true)
+module _ (map store : List ℕ) (p : placed map (length store) ≡ true) (g : Staged)
+    (e : stagedHolds (recordsOf map) store g ≡ true)
     (bank location byte : ℕ) (r : Record) (t : Takes (recordsOf map) store g bank location r) where
   within : Within map (length store) bank location r
   within = holder-within map (length store) bank location p r (t .found)
@@ -94,7 +96,8 @@ module _ (map store : List ℕ) (p : placed map (length store) ≡ true) (g : St
           let w = within in
           let same : g .count ≡ k = omega arith in
           let z = staged-said (recordsOf map) store g e (λ q. omega arith) .1 .zero in
-          rw (ne-eqb k 0 (omega arith)) (set-next (g .bytes) k byte (omega arith) (ap (λ (i : ℕ). zeroFrom i (g .bytes)) (sym same) ∙ z))
+          rw (ne-eqb k 0 (omega arith))
+          (set-next (g .bytes) k byte (omega arith) (ap (λ (i : ℕ). zeroFrom i (g .bytes)) (sym same) ∙ z))
 
   pub bytes-length : length (bytesTo g r location byte) ≡ k + 1
   bytes-length =
@@ -105,10 +108,12 @@ module _ (map store : List ℕ) (p : placed map (length store) ≡ true) (g : St
   bytes-zero : zeroFrom (k + 1) (bytesWith g k byte) ≡ true
   bytes-zero =
       let w = within in
-      ap (zeroFrom (k + 1)) bytes-are ∙ ap (λ (n : ℕ). zeroFrom n (padded (bytesTo g r location byte))) (sym bytes-length)
+      ap (zeroFrom (k + 1)) bytes-are
+      ∙ ap (λ (n : ℕ). zeroFrom n (padded (bytesTo g r location byte))) (sym bytes-length)
       ∙ padded-zero (bytesTo g r location byte) (omega (arith, bytes-length))
 
-  stages-holds : (k + 1 ≡ r .width → ⊥) → stagedHolds (recordsOf map) store (stagedOf r (k + 1) (bytesWith g k byte)) ≡ true
+  stages-holds : (k + 1 ≡ r .width → ⊥)
+      → stagedHolds (recordsOf map) store (stagedOf r (k + 1) (bytesWith g k byte)) ≡ true
   unfolding stagedHolds stagedIn
   stages-holds n =
       let w = within in
@@ -122,11 +127,13 @@ module _ (map store : List ℕ) (p : placed map (length store) ≡ true) (g : St
       ) bytes-zero
 
   takes : writeOf (recordsOf map) store g bank location byte
-      ≡ (if eqb (location + 1) (locationsEnd r) then leaves (wrote true noneStaged) (putValue r (bytesTo g r location byte) store)
+      ≡ (if eqb (location + 1) (locationsEnd r)
+      then leaves (wrote true noneStaged) (putValue r (bytesTo g r location byte) store)
       else leaves (wrote true (stagedOf r (k + 1) (padded (bytesTo g r location byte)))) store)
   takes =
       let w = within in
-      if-eq (λ (o : Outcome Wrote). writeOf (recordsOf map) store g bank location byte ≡ o) (location + 1) (locationsEnd r)
+      if-eq (λ (o : Outcome Wrote). writeOf (recordsOf map) store g bank location byte ≡ o)
+      (location + 1) (locationsEnd r)
       (λ q.
       let v : k + 1 ≡ r .width = omega arith in
       let all : take (r .width) (bytesWith g k byte) ≡ bytesTo g r location byte =
@@ -143,8 +150,9 @@ write-takes map store p g e bank location byte r t = takes map store p g e bank 
 pub write-keeps-rule : WriteKeepsRule
 write-keeps-rule map store p g e bank location byte =
     let rs = recordsOf map in
-    write-cases rs store g bank location byte (λ (o : Outcome Wrote). stagedHolds rs (o .store) (o .answer .staged) ≡ true)
-    (none-staged-holds rs store) (λ r t w. stages-holds map store p g e bank location byte r t w) (λ r t w. none-staged-holds rs _)
+    write-cases rs store g bank location byte
+    (λ (o : Outcome Wrote). stagedHolds rs (o .store) (o .answer .staged) ≡ true)
+    (none-staged-holds rs store) (stages-holds map store p g e bank location byte) (λ r t w. none-staged-holds rs _)
 
 pub write-value : WriteValue
 write-value map store p g e bank location byte r t =

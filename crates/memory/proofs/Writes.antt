@@ -1,15 +1,15 @@
--- What an executed write comes to: nothing is taken; or a byte is staged; or it is a last byte, and the whole value is put.
+-- What an executed write comes to: nothing is taken; or a byte is staged; or it is a last byte, and the whole value is
+-- put.
 -- Assumes nothing.
-use Prim.Native.Nat.{ℕ, _+_, _-_, _≤_, _<_}
-use mathlib.Core.Path.{_≡_, refl, ap, sym, _∙_}
+use Prim.Native.Nat.{ℕ, _+_, _-_, _≤_}
+use mathlib.Core.Path.{_≡_, refl}
 use mathlib.Core.Logic.{_⊎_, inl, inr, ⊎-elim}
-use mathlib.Core.Bool.{Bool, true, false, _&&_, _||_}
+use mathlib.Core.Bool.{true, false}
 use mathlib.Core.List.{List}
 use native.Mathlib.Omega.{arith}
 use borrow.Author.Tests.{eq-eqb, ne-eqb, eqb-true, leb-true}
 use lib.Dec.{eqb}
 use lib.ListN.{take}
-use Rattle.laws.specs.Choice.{if_then_else_}
 use Rattle.laws.specs.Outcome.{Outcome, leaves}
 use Rattle.laws.proofs.Tests.{if-by, if-eq}
 use Rattle.laws.proofs.Sides.{either, and-left, and-right}
@@ -20,7 +20,8 @@ use Rattle.banks.proofs.Locations.{holds-is, holder-at}
 use Rattle.banks.specs.declared.record.Record.{Record}
 use Rattle.banks.specs.declared.holder.Found.{Found}
 use Rattle.banks.specs.declared.holder.Found.the-variants.{At, Nothing}
-use Rattle.memory.specs.Staged.{noneStaged, isNext, unlocked, taken, bytesWith, stagedOf, wrote, takeByte, dropped, writeFound, writeAt, writeOf}
+use Rattle.memory.specs.Staged.{noneStaged, isNext, unlocked, taken, bytesWith, stagedOf, wrote}
+use Rattle.memory.specs.Staged.{takeByte, dropped, writeFound, writeAt, writeOf}
 use Rattle.memory.specs.Promises.{Takes, WriteDrops, WriteNotLast}
 use Rattle.memory.specs.declared.staged.Staged.{Staged}
 use Rattle.memory.specs.declared.staged.Wrote.{Wrote}
@@ -47,8 +48,8 @@ next-is g r location e =
       place = search (and-left, and-right, eqb-true);
     }
 
-pub taken-is : (rs : List Record) (store : List ℕ) (g : Staged) (r : Record) (location : ℕ) → taken rs store g r location ≡ true
-    → Taken rs store g r location
+pub taken-is : (rs : List Record) (store : List ℕ) (g : Staged) (r : Record) (location : ℕ)
+    → taken rs store g r location ≡ true → Taken rs store g r location
 unfolding taken
 taken-is rs store g r location e =
     record {
@@ -74,7 +75,8 @@ module _ (rs : List Record) (store : List ℕ) (g : Staged) (bank location byte 
   abbrev TakesIt : Record → Type 0
   TakesIt r = Takes rs store g bank location r
 
-  pub write-cases : (P : Outcome Wrote → Type 0) → P (dropped store) → ((r : Record) → TakesIt r → (number r + 1 ≡ r .width → ⊥) → P (stages r))
+  pub write-cases : (P : Outcome Wrote → Type 0) → P (dropped store)
+      → ((r : Record) → TakesIt r → (number r + 1 ≡ r .width → ⊥) → P (stages r))
       → ((r : Record) → TakesIt r → number r + 1 ≡ r .width → P (puts r)) → P (writeOf rs store g bank location byte)
   unfolding writeOf writeAt writeFound takeByte
   write-cases P none more last = go (holder rs bank location) refl
@@ -110,4 +112,6 @@ write-drops rs store g bank location byte none =
 pub write-not-last : WriteNotLast
 write-not-last rs store g bank location byte none =
     write-cases rs store g bank location byte (λ (o : Outcome Wrote). o .store ≡ store) refl (λ r t w. refl)
-    (λ r t w. let h = takes-in rs store g bank location byte r t in absurd (none r (record { takes = t; last = omega arith })))
+    (λ r t w.
+    let h = takes-in rs store g bank location byte r t in
+    absurd (none r (record { takes = t; last = omega arith })))

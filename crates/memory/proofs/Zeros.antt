@@ -2,13 +2,14 @@
 -- Assumes nothing.
 use Prim.Native.Nat.{ℕ, zero, suc, _+_, _-_, _≤_, _<_}
 use mathlib.Core.Path.{_≡_, refl, ap, sym, _∙_}
-use mathlib.Core.Bool.{Bool, true, false, _&&_}
+use mathlib.Core.Bool.{Bool, true, false}
 use mathlib.Core.List.{List, [], _∷_, _++_, append-assoc}
 use native.Mathlib.Omega.{arith}
 use native.Mathlib.Numerals.{add-one}
 use borrow.Author.Tests.{eq-eqb, ne-eqb, eqb-true}
 use lib.Dec.{eqb}
-use lib.ListN.{length, take, drop, set, getD, replicate, length-append, length-drop, length-replicate, drop-of-length-le}
+use lib.ListN.{length, take, drop, set, getD, replicate}
+use lib.ListN.{length-append, length-drop, length-replicate, drop-of-length-le}
 use lib.Seq.{length-take-le, drop-cons, drop-append-seam, set-split}
 use Rattle.laws.specs.Lists.{every}
 use Rattle.laws.proofs.Tests.{both}
@@ -47,7 +48,8 @@ zeros-are (b ∷ bs) e =
     λ i. eqb-true b 0 (p .0) i ∷ zeros-are bs (p .1) i
 
 -- what is not in use is zero
-unused : (used : ℕ) (bytes : List ℕ) → zeroFrom used bytes ≡ true → drop used bytes ≡ replicate (length (drop used bytes)) 0
+unused : (used : ℕ) (bytes : List ℕ) → zeroFrom used bytes ≡ true
+    → drop used bytes ≡ replicate (length (drop used bytes)) 0
 unfolding zeroFrom
 unused used bytes e = zeros-are (drop used bytes) (both (eqb (length bytes) 8) (zeros (drop used bytes)) e .1)
 
@@ -59,12 +61,14 @@ zero-rest bytes i h e =
     let n = next bytes i h (room-bytes i bytes e) in
     rw (p .0) (both (eqb (getD bytes i 0) 0) (zeros (drop (i + 1) bytes)) (sym (ap zeros n) ∙ p .1) .1)
 
-pub set-next : (bytes : List ℕ) (i b : ℕ) → i < 8 → zeroFrom i bytes ≡ true → set bytes i b ≡ padded (take i bytes ++ b ∷ [])
+pub set-next : (bytes : List ℕ) (i b : ℕ) → i < 8 → zeroFrom i bytes ≡ true
+    → set bytes i b ≡ padded (take i bytes ++ b ∷ [])
 set-next bytes i b h e =
     let l : length bytes ≡ 8 = room-bytes i bytes e in
     let t : length (take i bytes) ≡ i = length-take-le i bytes (omega arith) in
     let n : length (take i bytes ++ b ∷ []) ≡ length (take i bytes) + 1 = length-append (take i bytes) (b ∷ []) in
-    let d : length (drop (i + 1) bytes) ≡ 8 - length (take i bytes ++ b ∷ []) = length-drop (i + 1) bytes ∙ omega arith in
+    let d : length (drop (i + 1) bytes) ≡ 8 - length (take i bytes ++ b ∷ []) =
+    length-drop (i + 1) bytes ∙ omega arith in
     let z : drop (i + 1) bytes ≡ replicate (8 - length (take i bytes ++ b ∷ [])) 0 =
     unused (i + 1) bytes (zero-rest bytes i h e) ∙ ap (λ (k : ℕ). replicate k 0) d in
     set-split bytes i b (omega arith)
@@ -80,5 +84,6 @@ zeros-of (suc n) = zeros-of n
 pub padded-zero : (value : List ℕ) → length value ≤ 8 → zeroFrom (length value) (padded value) ≡ true
 unfolding zeroFrom
 padded-zero value h =
-    let n : length (value ++ replicate (8 - length value) 0) ≡ 8 = simp (length-append, length-replicate) (omega arith) in
-    rw (eq-eqb (length (padded value)) 8 n, drop-append-seam value (replicate (8 - length value) 0)) (zeros-of (8 - length value))
+    let n : length (padded value) ≡ 8 = simp (length-append, length-replicate) (omega arith) in
+    rw (eq-eqb (length (padded value)) 8 n, drop-append-seam value (replicate (8 - length value) 0))
+    (zeros-of (8 - length value))

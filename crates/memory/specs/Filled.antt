@@ -1,12 +1,14 @@
--- RESET MEMORY BANK and power-on, for the store: which values are put anew, and with what. Paper 01, "State and clock" and
--- "Commands obeyed".
+-- RESET MEMORY BANK and power-on, for the store: which values are put anew, and with what. Paper 01, "State and
+-- clock" and "Commands obeyed".
 -- Assumes nothing.
-use Prim.Native.Nat.{ℕ}
-use mathlib.Core.Bool.{Bool, true, false, _&&_}
+use Prim.Native.Nat.{ℕ, _-_, _/_}
+use mathlib.Core.Bool.{Bool, _&&_}
 use mathlib.Core.List.{List, [], _∷_}
 use lib.Dec.{leb, eqb}
+use lib.ListN.{length}
 use Rattle.laws.specs.Choice.{if_then_else_}
-use Rattle.banks.specs.Map.{writable}
+use Rattle.laws.specs.Lists.{items}
+use Rattle.banks.specs.Map.{recordAt, recordsOf, writable}
 use Rattle.banks.specs.Rules.{isLock}
 use Rattle.banks.specs.Lookup.{valueOf, putValue, lockByte}
 use Rattle.banks.specs.declared.record.Record.{Record}
@@ -45,3 +47,8 @@ filledBy such image store (r ∷ rs) =
 -- which are chosen goes by the store as it was
 unfoldable pub filledOf : List Record → List ℕ → List ℕ → Filling → List ℕ
 filledOf rs store image filling = filledBy (chosen rs store filling) image store rs
+
+-- the records from number i on, as the recursion over the map comes to them
+abbrev pub filledFrom : List ℕ → List ℕ → List ℕ → Filling → ℕ → List ℕ
+filledFrom map store image filling i =
+    filledBy (chosen (recordsOf map) store filling) image store (items (recordAt map) i (length map / 8 - i))

@@ -1,4 +1,5 @@
--- What the floors above lean on: what a write, a read and a fill leave of the store and of the rooms. Proved in proofs/.
+-- What the floors above lean on: what a write, a read and a fill leave of the store and of the rooms. The proofs stand
+-- in proofs/.
 -- Assumes nothing.
 use mathlib.Core.Path.{_≡_}
 use mathlib.Core.Logic.{_⊎_}
@@ -10,19 +11,17 @@ use lib.ListN.{length, take, getD}
 use Rattle.laws.specs.Choice.{if_then_else_}
 use Rattle.laws.specs.Outcome.{Outcome, leaves}
 use Rattle.banks.specs.Map.{recordsOf, writable, mapped, locationsEnd, placesEnd}
-use Rattle.banks.specs.Rules.{ordered, placed, checkNumber}
+use Rattle.banks.specs.Rules.{placed, checkNumber}
 use Rattle.banks.specs.Lookup.{holder, valueOf, putValue, lockByte}
 use Rattle.banks.specs.Facts.{Member, Stands}
 use Rattle.banks.specs.declared.record.Record.{Record}
 use Rattle.banks.specs.declared.holder.Found.the-variants.{At}
 use Rattle.memory.specs.Staged.{noneStaged, unlocked, taken, stagedOf, wrote, writeOf}
-use Rattle.memory.specs.Latched.{padded, latches, shown, readOf}
+use Rattle.memory.specs.Latched.{noneLatched, padded, latches, shown, readOf}
 use Rattle.memory.specs.Filled.{fillingNumber, fillingValues, selects, chosen, fresh, filledOf}
 use Rattle.memory.specs.Rooms.{stagedHolds, latchHolds}
 use Rattle.memory.specs.declared.staged.Staged.{Staged}
-use Rattle.memory.specs.declared.staged.Wrote.{Wrote}
 use Rattle.memory.specs.declared.latched.Latch.{Latch}
-use Rattle.memory.specs.declared.latched.Shown.{Shown}
 use Rattle.memory.specs.declared.filled.Filling.{Filling}
 use Rattle.memory.specs.declared.filled.Filling.the-variants.{PowerOn, Reset}
 
@@ -35,9 +34,16 @@ pub record ChangesOnly (map store after : List ℕ) (changed : Record → Type 0
   -- a value that is not writable never changes
   pub read-only : (r : Record) → Member r map → writable r ≡ false → valueOf r after ≡ valueOf r store
   -- every byte under no record stays
-  pub unmapped : (j : ℕ) → ((r : Record) → Member r map → (j < r .offset) ⊎ (placesEnd r ≤ j)) → getD after j 0 ≡ getD store j 0
+  pub unmapped : (j : ℕ) → ((r : Record) → Member r map → (j < r .offset) ⊎ (placesEnd r ≤ j))
+      → getD after j 0 ≡ getD store j 0
   -- 7 to 11 give the number that they gave
   pub checks : (kept : ℕ) → checkNumber map after kept ≡ checkNumber map store kept
+
+-- and so what stood stands
+abbrev pub StandsStays : Type 1
+StandsStays =
+    (map store after : List ℕ) (kept : ℕ) (changed : Record → Type 0) → ChangesOnly map store after changed
+    → Stands map store kept → Stands map after kept
 
 -- An executed write.
 
@@ -55,7 +61,11 @@ pub record TakesLast (rs : List Record) (store : List ℕ) (g : Staged) (bank lo
 abbrev pub bytesTo : Staged → Record → ℕ → ℕ → List ℕ
 bytesTo g r location byte = take (location - r .first) (g .bytes) ++ byte ∷ []
 
--- staged bytes keep their rule, and with it the lock: what is staged in the store that the write leaves
+-- nothing staged keeps the rule of staged bytes in every store
+abbrev pub NoneStagedHolds : Type 0
+NoneStagedHolds = (rs : List Record) (store : List ℕ) → stagedHolds rs store noneStaged ≡ true
+
+-- staged bytes keep their rule, in the store that the write leaves
 abbrev pub WriteKeepsRule : Type 0
 WriteKeepsRule =
     (map store : List ℕ) → placed map (length store) ≡ true
@@ -70,7 +80,8 @@ WriteTakes =
     → (g : Staged) → stagedHolds (recordsOf map) store g ≡ true
     → (bank location byte : ℕ) (r : Record) → Takes (recordsOf map) store g bank location r
     → writeOf (recordsOf map) store g bank location byte
-    ≡ (if eqb (location + 1) (locationsEnd r) then leaves (wrote true noneStaged) (putValue r (bytesTo g r location byte) store)
+    ≡ (if eqb (location + 1) (locationsEnd r)
+    then leaves (wrote true noneStaged) (putValue r (bytesTo g r location byte) store)
     else leaves (wrote true (stagedOf r (location - r .first + 1) (padded (bytesTo g r location byte)))) store)
 
 -- a byte that is not taken: nothing stays staged, and the store stays
@@ -99,16 +110,18 @@ abbrev pub WriteChangesOnly : Type 0
 WriteChangesOnly =
     (map store : List ℕ) → placed map (length store) ≡ true
     → (g : Staged) → stagedHolds (recordsOf map) store g ≡ true → (bank location byte : ℕ)
-    → ChangesOnly map store (writeOf (recordsOf map) store g bank location byte .store) (TakesLast (recordsOf map) store g bank location)
+    → ChangesOnly map store (writeOf (recordsOf map) store g bank location byte .store)
+    (TakesLast (recordsOf map) store g bank location)
 
 -- executed writes of the bytes, one after the other, from the location on: what is staged then, and the store
 abbrev pub writes : List Record → List ℕ → Staged → ℕ → ℕ → List ℕ → Outcome Staged
 writes rs store g bank location [] = leaves g store
 writes rs store g bank location (b ∷ bs) =
-    writes rs (writeOf rs store g bank location b .store) (writeOf rs store g bank location b .answer .staged) bank (location + 1) bs
+    writes rs (writeOf rs store g bank location b .store) (writeOf rs store g bank location b .answer .staged) bank
+    (location + 1) bs
 
--- n executed writes to the n locations of a writable, unlocked value of width n, first to last, put the whole value, and
--- nothing stays staged
+-- n executed writes to the n locations of a writable, unlocked value of width n, first to last, put the whole value,
+-- and nothing stays staged
 abbrev pub WholeValue : Type 0
 WholeValue =
     (map store : List ℕ) → placed map (length store) ≡ true
@@ -129,7 +142,11 @@ ReadKeepsRule =
 abbrev pub ReadLatched : Type 0
 ReadLatched =
     (rs : List Record) (store : List ℕ) (l : Latch) (bank location : ℕ) (r : Record) → holder rs bank location ≡ At r
-    → r .first < location → latches l r ≡ true → readOf rs store l bank location ≡ shown l (getD (l .bytes) (location - r .first) 0)
+    → r .first < location → latches l r ≡ true
+    → readOf rs store l bank location ≡ shown l (getD (l .bytes) (location - r .first) 0)
+
+abbrev pub NoneLatchedHolds : Type 0
+NoneLatchedHolds = (rs : List Record) → latchHolds rs noneLatched ≡ true
 
 -- RESET MEMORY BANK and power-on.
 
@@ -148,7 +165,8 @@ FillValue =
 abbrev pub FillChangesOnly : Type 0
 FillChangesOnly =
     (map store image : List ℕ) → placed map (length store) ≡ true → length image ≡ length store → (filling : Filling)
-    → ChangesOnly map store (filledOf (recordsOf map) store image filling) (λ r. chosen (recordsOf map) store filling r ≡ true)
+    → ChangesOnly map store (filledOf (recordsOf map) store image filling)
+    (λ r. chosen (recordsOf map) store filling r ≡ true)
 
 -- a power-on changes RAM-RW values only
 abbrev pub PowerOnKeeps : Type 0
@@ -170,13 +188,10 @@ FillLocks =
     → lockByte (recordsOf map) (filledOf (recordsOf map) store image filling) bank
     ≡ (if locksBank (recordsOf map) store filling bank then 0xFF else lockByte (recordsOf map) store bank)
 
--- staged bytes keep their rule through a fill that does not lock their bank; nothing staged always does
+-- staged bytes keep their rule through a fill that does not lock their bank
 abbrev pub FillKeepsRule : Type 0
 FillKeepsRule =
     (map store image : List ℕ) → Stands map store (length image) → (filling : Filling)
     → (g : Staged) → stagedHolds (recordsOf map) store g ≡ true
     → (g .count ≡ 0) ⊎ (locksBank (recordsOf map) store filling (g .bank) ≡ false)
     → stagedHolds (recordsOf map) (filledOf (recordsOf map) store image filling) g ≡ true
-
-abbrev pub NoneStagedHolds : Type 0
-NoneStagedHolds = (rs : List Record) (store : List ℕ) → stagedHolds rs store noneStaged ≡ true

@@ -1,8 +1,8 @@
--- The rules of a state that concern its staged and latched bytes. Paper 01, "State and clock". "While enabled" is not said
--- here: write-enable is another room.
+-- The rules of a state that concern its staged and latched bytes. Paper 01, "State and clock". "While enabled" is not
+-- said here: write-enable is another room.
 -- Assumes nothing.
 use Prim.Native.Nat.{ℕ}
-use mathlib.Core.Bool.{Bool, true, false, _&&_}
+use mathlib.Core.Bool.{Bool, false, _&&_}
 use mathlib.Core.List.{List}
 use lib.Dec.{leb, ltb, eqb}
 use lib.ListN.{length, drop}

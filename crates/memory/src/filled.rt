@@ -1,13 +1,12 @@
 // RESET MEMORY BANK and power-on, for the store: which values are put anew, and with what.
 ghost use mathlib.Core.Path.{_≡_};
 ghost use mathlib.Core.Bool.{true};
-ghost use Prim.Native.Nat.{_+_, _-_, _/_, _<_, _≤_};
+ghost use Prim.Native.Nat.{_≤_};
 ghost use lib.ListN.{length};
-ghost use Rattle.laws.specs.Lists.{items};
-ghost use Rattle.banks.specs.Map.{recordAt, recordsOf, placesEnd};
+ghost use Rattle.banks.specs.Map.{recordsOf, placesEnd};
 ghost use Rattle.banks.specs.Rules.{placed, isLock};
 ghost use Rattle.banks.specs.Lookup.{putValue};
-ghost use Rattle.memory.specs.Filled.{selects, chosen, fresh, filledBy, filledOf};
+ghost use Rattle.memory.specs.Filled.{selects, chosen, fresh, filledFrom, filledOf};
 use crate::parts::put_value;
 use banks::Record;
 use banks::is_writable;
@@ -67,7 +66,7 @@ fn freshen(store: &mut [u8], image: &[u8], r: Record)
 // Internal: the records from number i on. Which are chosen is decided on the way down, before anything is stored.
 fn fill_from(map: &[u8], store: &mut [u8], image: &[u8], filling: Filling, i: usize)
     requires { ⌜ (placed (now map) (length (now store)) ≡ true) × (length (now image) ≡ length (now store)) ⌝ }
-    ensures { λ _. ⌜ now (store .exit) ≡ filledBy (chosen (recordsOf (now (map .entry))) (now (store .entry)) filling) (now (image .entry)) (now (store .entry)) (items (recordAt (now (map .entry))) i (length (now (map .entry)) / 8 - i)) ⌝ }
+    ensures { λ _. ⌜ now (store .exit) ≡ filledFrom (now (map .entry)) (now (store .entry)) (now (image .entry)) filling i ⌝ }
 {
     if i < records(map) {
         let r = record_at(map, i);

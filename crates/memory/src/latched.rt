@@ -1,7 +1,7 @@
 // READ in a mapped bank, and the latch.
 ghost use mathlib.Core.Path.{_≡_};
 ghost use mathlib.Core.Bool.{true};
-ghost use Prim.Native.Nat.{_+_, _-_, _<_, _≤_};
+ghost use Prim.Native.Nat.{_-_, _<_, _≤_};
 ghost use lib.ListN.{length};
 ghost use Rattle.banks.specs.Map.{recordsOf};
 ghost use Rattle.banks.specs.Rules.{placed};

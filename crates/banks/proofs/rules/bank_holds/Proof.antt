@@ -12,6 +12,7 @@ bank-holds-spec =
     tie.close (tie.spec
     (λ c κs. search needs)
     (λ c κs. search needs)
-    (λ c. rw (eq-eqb _ _ (c .before .if1 .taken), c .is-writable .ensures, c .before .before .before .has-head .ensures))
+    (λ c.
+    rw (eq-eqb _ _ (c .before .if1 .taken), c .is-writable .ensures, c .before .before .before .has-head .ensures))
     (λ c κs. search needs)
     (λ c. rw (ne-eqb _ _ (c .before .if1 .left), c .has-lock .ensures, c .before .before .before .has-head .ensures)))

@@ -10,4 +10,5 @@ fields-hold-spec =
     (λ c κs. tt)
     (λ c κs. tt)
     (λ c. search needs)
-    (λ c. rw (c .before .before .before .lockable-holds .ensures, c .before .before .before .before .locations-end .ensures)))
+    (λ c.
+    rw (c .before .before .before .lockable-holds .ensures, c .before .before .before .before .locations-end .ensures)))
