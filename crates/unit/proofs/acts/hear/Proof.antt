@@ -14,6 +14,6 @@ hear-spec =
     (λ c κs. search needs)
     (λ c κs. search needs)
     (λ c κs. search needs)
-    (λ c. rw (c .before .before .before .if1 .taken) (cc))
+    (λ c. cc)
     (λ c κs. search needs)
-    (λ c. rw (c .before .if1 .left) (cc)))
+    (λ c. cc))
