@@ -1,6 +1,7 @@
 pub mod State
 pub mod Rules
 pub mod Due
+pub mod Codes
 pub mod Step
 pub mod Run
 pub mod Promises
