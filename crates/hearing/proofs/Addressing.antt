@@ -1,7 +1,7 @@
 -- A command is for the unit exactly if its address is.
 -- Assumes nothing.
-use mathlib.Core.Path.{_≡_, refl}
-use Prim.Native.Nat.{ℕ, _/_, _%_, _^_}
+use mathlib.Core.Path.{refl}
+use Prim.Native.Nat.{_/_, _%_, _^_}
 use borrow.Author.Tests.{eqb-true, eq-eqb}
 use Rattle.hearing.specs.Promises.{ForTheUnit}
 use Rattle.hearing.specs.declared.rooms.Who.{Who}

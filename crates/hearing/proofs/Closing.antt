@@ -1,6 +1,6 @@
 -- What keeps write-enable, and what closes nothing.
 -- Assumes nothing.
-use mathlib.Core.Path.{_≡_, refl}
+use mathlib.Core.Path.{refl}
 use Rattle.hearing.specs.Promises.{ClosesNothing, ElevenKeep}
 
 pub closes-nothing : ClosesNothing

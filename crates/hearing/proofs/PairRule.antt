@@ -1,7 +1,6 @@
 -- The pair rule at the bench sheet's clocks, and where there is no pair.
 -- Assumes nothing.
-use mathlib.Core.Path.{_≡_, refl}
-use mathlib.Core.Bool.{true, false, _&&_}
+use mathlib.Core.Path.{refl}
 use Prim.Native.Nat.{ℕ}
 use borrow.Author.Tests.{eq-eqb, ne-eqb}
 use Rattle.hearing.specs.Pairs.{passed, inTime, completes}

@@ -1,8 +1,8 @@
--- The numbers of the calls, one test behind the other, as the code makes them; and what number 0 says of map, store, image.
+-- The numbers of the calls, one test behind the other; and what number 0 says of map, store and image.
 -- Assumes nothing.
-use Prim.Native.Nat.{ℕ, zero, suc, _<_}
 use mathlib.Core.Path.{_≡_, refl, sym, _∙_}
 use mathlib.Core.List.{List, [], _∷_}
+use Prim.Native.Nat.{ℕ, zero, suc, _<_}
 use native.Mathlib.Omega.{arith}
 use lib.Dec.{ltb}
 use Rattle.laws.specs.Choice.{if_then_else_}
@@ -29,7 +29,8 @@ none-by (suc k) m first e = sym (first (omega arith)) ∙ e
 
 module _ (map store : List ℕ) (kept : ℕ) where
   -- 7 to 11, then 12
-  pub power-first : (s : State) (n : ℕ) → n ≡ checkNumber map store kept → (n ≡ 0 → ⊥) → n ≡ powerNumber map store kept s
+  pub power-first : (s : State) (n : ℕ) → n ≡ checkNumber map store kept → (n ≡ 0 → ⊥)
+      → n ≡ powerNumber map store kept s
   power-first s n e ne = first-by n e ne (tests-in-order map store kept .power-first s)
 
   pub power-then : (s : State) (n : ℕ) → n ≡ checkNumber map store kept → n ≡ 0
@@ -37,7 +38,8 @@ module _ (map store : List ℕ) (kept : ℕ) where
   power-then s n e z = tests-in-order map store kept .power-then s (sym e ∙ z)
 
   -- 7 to 11, then 6
-  pub start-first : (who : Who) (n : ℕ) → n ≡ checkNumber map store kept → (n ≡ 0 → ⊥) → n ≡ startNumber map store kept who
+  pub start-first : (who : Who) (n : ℕ) → n ≡ checkNumber map store kept → (n ≡ 0 → ⊥)
+      → n ≡ startNumber map store kept who
   start-first who n e ne = first-by n e ne (tests-in-order map store kept .start-first who)
 
   pub start-then : (who : Who) (n : ℕ) → n ≡ checkNumber map store kept → n ≡ 0

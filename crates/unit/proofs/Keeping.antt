@@ -16,7 +16,8 @@ use Rattle.hearing.specs.Meaning.{meaningOf}
 use Rattle.hearing.specs.declared.rooms.Who.{Who}
 use Rattle.hearing.specs.declared.rooms.Heard.{Heard}
 use Rattle.memory.specs.Rooms.{stagedHolds, latchHolds}
-use Rattle.memory.proofs.StagedRoom.{none-staged-holds}
+use Rattle.memory.proofs.StagedRoom.{none-staged-holds, write-keeps-rule}
+use Rattle.memory.proofs.LatchRoom.{read-keeps-rule}
 use Rattle.unit.specs.State.{withWho, withRegisters, withWaiting, withDoor, withLatch, shutDoor, openDoor}
 use Rattle.unit.specs.Rules.{addressHolds, needsPair, waitingHolds, doorHolds, stateHolds}
 use Rattle.unit.specs.Step.{quiet, answering, hearing, raised, written, readBy, done, frameOf}
@@ -27,7 +28,6 @@ use Rattle.unit.specs.declared.due.Due.{Due}
 use Rattle.unit.specs.declared.due.Due.the-variants.{Nothing, Waits, Opens, Resets, Becomes, Loads, Answers}
 use Rattle.unit.specs.declared.due.Due.the-variants.{Writes, Reads}
 use Rattle.unit.proofs.Dues.{Cases, by-due}
-use Rattle.unit.proofs.Rooms.{staged-after, latch-after}
 
 -- ---- the rules of a state, one by one
 
@@ -66,7 +66,7 @@ unfolding doorHolds
 door-staged rs store s e = and-right (s .door .enabled || eqb (s .door .staged .count) 0) _ e
 
 module _ (map store image : List ℕ) (s : State) (heard : Heard) (place : placed map (length store) ≡ true)
-    (long : length image ≡ length store) (h : RulesHold (recordsOf map) store s) where
+    (h : RulesHold (recordsOf map) store s) where
   abbrev acted : Bool → Due → Outcome Stepped
   acted closing due = done (recordsOf map) store image (hearing s closing) heard due
 
@@ -127,7 +127,7 @@ module _ (map store image : List ℕ) (s : State) (heard : Heard) (place : place
       record {
         address = h .address;
         waiting = refl;
-        door = rw e (staged-after map (length store) place store (s .door .staged) staged refl bank location byte);
+        door = rw e (write-keeps-rule map store place (s .door .staged) staged bank location byte);
         latch = h .latch;
       }
 
@@ -138,7 +138,7 @@ module _ (map store image : List ℕ) (s : State) (heard : Heard) (place : place
         address = h .address;
         waiting = refl;
         door = shut-holds (recordsOf map) store _ refl;
-        latch = latch-after map (length store) place store refl (s .latch) bank location (h .latch);
+        latch = read-keeps-rule map store place (s .latch) (h .latch) bank location;
       }
 
   all-kept : Cases (recordsOf map) s heard Kept

@@ -2,11 +2,12 @@
 -- Assumes nothing.
 use Prim.Native.Nat.{ℕ}
 use mathlib.Core.Path.{_≡_, refl, ap, _∙_}
-use mathlib.Core.Bool.{Bool, true, false}
+use mathlib.Core.Bool.{Bool, true, false, _&&_}
 use mathlib.Core.List.{List}
 use borrow.Author.Tests.{eq-eqb, ne-eqb}
 use Rattle.laws.specs.Outcome.{Outcome}
 use Rattle.banks.specs.declared.record.Record.{Record}
+use Rattle.memory.specs.Staged.{writeOf}
 use Rattle.hearing.specs.declared.rooms.Heard.{Heard}
 use Rattle.unit.specs.State.{withWho, withRegisters, withWaiting, withDoor, withLatch}
 use Rattle.unit.specs.Due.{withDtr}
@@ -23,6 +24,10 @@ use Rattle.unit.specs.declared.due.Due.the-variants.{Nothing, Answers}
 rooms : Unit {0}
 unfolding withDtr withWho withRegisters withWaiting withDoor withLatch
 rooms = tt
+
+no-reply : (taken replying : Bool) → replying ≡ false → (taken && replying) ≡ false
+no-reply true replying e = e
+no-reply false replying e = refl
 
 module _ (rs : List Record) (store image : List ℕ) (s : State) (heard : Heard) where
   -- a frame that closes write-enable or not, and what is due then
@@ -62,7 +67,9 @@ module _ (rs : List Record) (store image : List ℕ) (s : State) (heard : Heard)
         becomes = λ who a. (refl, refl, refl, refl, refl, refl);
         loads = λ registers. (refl, refl, refl, refl, refl, refl);
         answers = answers;
-        writes = λ e bank location byte replying. (refl, rises location _ refl, refl, refl, refl);
+        writes = λ e bank location byte replying.
+            let wrote = writeOf rs store (s .door .staged) bank location byte in
+            (refl, rises location _ refl, refl, refl, refl, no-reply (wrote .answer .taken) replying);
         reads = λ bank location. (refl, rises location _ refl, refl, refl, refl);
       }
 

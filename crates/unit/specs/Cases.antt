@@ -138,5 +138,6 @@ startCases =
 
 unfoldable pub StartCases : Type 0
 StartCases =
-    map (λ c. startNumber benchMap (c .store) (length benchImage) (record { address = c .address; groups = 0 })) startCases
+    map (λ c. startNumber benchMap (c .store) (length benchImage) (record { address = c .address; groups = 0 }))
+    startCases
     ≡ map (λ c. c .number) startCases

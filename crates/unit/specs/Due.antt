@@ -1,7 +1,8 @@
--- What a frame makes happen now: nothing, it waits, it opens, .. Paper 01, "Commands obeyed". It changes nothing by itself.
+-- What a frame makes happen now: nothing, it waits, it opens, .. It changes nothing by itself.
+-- Paper 01, "Commands obeyed".
 -- Assumes nothing.
 use Prim.Native.Nat.{ℕ, _+_, _-_, _*_, _/_, _%_, _^_}
-use mathlib.Core.Bool.{Bool, true, false, _&&_, _||_}
+use mathlib.Core.Bool.{Bool, true, _&&_, _||_}
 use mathlib.Core.List.{List}
 use lib.Bits.{bitOr, bitAnd}
 use lib.Dec.{ltb, eqb}
@@ -13,15 +14,19 @@ use Rattle.hearing.specs.Pairs.{completes}
 use Rattle.hearing.specs.declared.rooms.Who.{Who}
 use Rattle.hearing.specs.declared.rooms.Heard.{Heard}
 use Rattle.hearing.specs.declared.meaning.Once.{Once}
-use Rattle.hearing.specs.declared.meaning.Once.the-variants.{QueryMissingShortAddress, QueryContentDtr, ReadMemoryLocation, QueryDeviceGroups, WriteMemoryLocation, DirectWriteMemory, SetDtr, SetDtrs}
+use Rattle.hearing.specs.declared.meaning.Once.the-variants.{QueryMissingShortAddress, QueryContentDtr, QueryDeviceGroups}
+use Rattle.hearing.specs.declared.meaning.Once.the-variants.{ReadMemoryLocation, WriteMemoryLocation}
+use Rattle.hearing.specs.declared.meaning.Once.the-variants.{DirectWriteMemory, SetDtr, SetDtrs}
 use Rattle.hearing.specs.declared.meaning.Twice.{Twice}
-use Rattle.hearing.specs.declared.meaning.Twice.the-variants.{ResetMemoryBank, SetShortAddress, EnableWriteMemory, AddToDeviceGroups, RemoveFromDeviceGroups}
+use Rattle.hearing.specs.declared.meaning.Twice.the-variants.{ResetMemoryBank, SetShortAddress, EnableWriteMemory}
+use Rattle.hearing.specs.declared.meaning.Twice.the-variants.{AddToDeviceGroups, RemoveFromDeviceGroups}
 use Rattle.hearing.specs.declared.meaning.Meaning.{Meaning}
 use Rattle.hearing.specs.declared.meaning.Meaning.the-variants.{Foreign, NotObeyed, AtOnce, NeedsPair}
 use Rattle.unit.specs.declared.state.Registers.{Registers}
 use Rattle.unit.specs.declared.state.State.{State}
 use Rattle.unit.specs.declared.due.Due.{Due}
-use Rattle.unit.specs.declared.due.Due.the-variants.{Nothing, Waits, Opens, Resets, Becomes, Loads, Answers, Writes, Reads}
+use Rattle.unit.specs.declared.due.Due.the-variants.{Nothing, Waits, Opens, Resets, Becomes, Loads, Answers}
+use Rattle.unit.specs.declared.due.Due.the-variants.{Writes, Reads}
 
 -- DTR number k
 unfoldable pub dtrOf : Registers → ℕ → ℕ

@@ -1,58 +1,56 @@
 -- What start, power-on and frame steps keep: other values, bytes under no record, and every rule.
--- Paper 01, "Map, store, reset image" and "State and clock". Proved in proofs/Store.antt and proofs/Keeping.antt.
+-- Paper 01, "Map, store, reset image" and "State and clock". Proved in proofs/Accepted.antt.
 -- Assumes nothing.
 use Prim.Native.Nat.{ℕ, _<_, _≤_}
 use mathlib.Core.Path.{_≡_}
 use mathlib.Core.Logic.{_⊎_}
-use mathlib.Core.Bool.{true, false}
+use mathlib.Core.Bool.{Bool, true, false}
 use mathlib.Core.List.{List, [], _∷_}
+use lib.Dec.{ltb}
 use lib.ListN.{length, getD}
+use Rattle.laws.specs.Lists.{every}
 use Rattle.laws.specs.Outcome.{Outcome}
 use Rattle.banks.specs.Map.{recordsOf, writable, placesEnd, mapped}
 use Rattle.banks.specs.Rules.{isLock}
 use Rattle.banks.specs.Lookup.{valueOf, lockByte}
 use Rattle.banks.specs.Facts.{Member}
 use Rattle.banks.specs.declared.record.Record.{Record}
+use Rattle.memory.specs.Promises.{ChangesOnly}
 use Rattle.hearing.specs.declared.rooms.Who.{Who}
 use Rattle.hearing.specs.declared.rooms.Heard.{Heard}
 use Rattle.unit.specs.Due.{dueOf}
 use Rattle.unit.specs.Step.{startNumber, startOf, powerNumber, powerOnOf, powerOf, stepNumber, stepOf}
+use Rattle.unit.specs.Run.{Input, power-on, hears, inputOf}
+use Rattle.unit.specs.Promises.{numberOf}
 use Rattle.unit.specs.declared.state.State.{State}
 use Rattle.unit.specs.declared.state.Stepped.{Stepped}
 use Rattle.unit.specs.declared.due.Due.the-variants.{Resets}
 
--- ---- the store
+-- ---- the store. `ChangesOnly` is memory's: every value stays but those named, and so do each value that is not
+-- writable, each byte under no record, and how long the store is
 
--- byte number j is under no record
-abbrev pub UnderNone : List ℕ → ℕ → Type 0
-UnderNone map j = (r : Record) → Member r map → (j < r .offset) ⊎ (placesEnd r ≤ j)
+-- accepted or refused: start and power-on change RAM-RW values only, a frame step writable ones only
+pub record StoreKept (map store image : List ℕ) : Type 0 where
+  pub start : (who : Who) → ChangesOnly map store (startOf map store image who .store) (λ r. r .kind ≡ 2)
+  pub power-on : (s : State) → ChangesOnly map store (powerOnOf map store image s .store) (λ r. r .kind ≡ 2)
+  pub step : (s : State) (heard : Heard)
+      → ChangesOnly map store (stepOf map store image s heard .store) (λ r. writable r ≡ true)
 
--- what no call ever changes: only 2 and 4 are writable; bytes under no record; how long the store is
-pub record RestStays (map store after : List ℕ) : Type 0 where
-  pub read-only : (r : Record) → Member r map → writable r ≡ false → valueOf r after ≡ valueOf r store
-  pub under-none : (j : ℕ) → UnderNone map j → getD after j 0 ≡ getD store j 0
-  pub as-long : length after ≡ length store
+abbrev pub Store-kept : Type 0
+Store-kept = (map store image : List ℕ) → StoreKept map store image
 
-pub record RestKept (map store image : List ℕ) : Type 0 where
-  pub start : (who : Who) → RestStays map store (startOf map store image who .store)
-  pub power-on : (s : State) → RestStays map store (powerOnOf map store image s .store)
-  pub step : (s : State) (heard : Heard) → RestStays map store (stepOf map store image s heard .store)
-
-abbrev pub Rest-kept : Type 0
-Rest-kept = (map store image : List ℕ) → RestKept map store image
-
--- one writable value may have other bytes; every other value has its own
-pub record OnlyOne (map store after : List ℕ) : Type 0 where
+-- one writable value, and nothing but it, may have changed
+pub record OneValue (map store after : List ℕ) : Type 0 where
   pub value : Record
   pub member : Member value map
   pub writes : writable value ≡ true
-  pub others : (r : Record) → Member r map → (r ≡ value → ⊥) → valueOf r after ≡ valueOf r store
+  pub only : ChangesOnly map store after (λ r. r ≡ value)
 
 -- in a frame step that is no reset at most one value's bytes change
 abbrev pub One-value-changes : Type 0
 One-value-changes = (map store image : List ℕ) (s : State) (heard : Heard)
     → ((dtr0 : ℕ) → dueOf (recordsOf map) s heard ≡ Resets dtr0 → ⊥)
-    → (stepOf map store image s heard .store ≡ store) ⊎ OnlyOne map store (stepOf map store image s heard .store)
+    → (stepOf map store image s heard .store ≡ store) ⊎ OneValue map store (stepOf map store image s heard .store)
 
 -- ---- power-on
 
@@ -76,7 +74,8 @@ pub record StorePowered (map store image after : List ℕ) : Type 0 where
   pub ram : (r : Record) → Member r map → isLock r ≡ false → r .kind ≡ 2 → valueOf r after ≡ valueOf r image
   -- kinds 0, 1, 3, 4 stay, and so do bytes under no record
   pub others : (r : Record) → Member r map → (r .kind ≡ 2 → ⊥) → valueOf r after ≡ valueOf r store
-  pub under-none : (j : ℕ) → UnderNone map j → getD after j 0 ≡ getD store j 0
+  pub unmapped : (j : ℕ) → ((r : Record) → Member r map → (j < r .offset) ⊎ (placesEnd r ≤ j))
+      → getD after j 0 ≡ getD store j 0
 
 pub record PowersOn (map store image : List ℕ) (who : Who) (o : Outcome Stepped) : Type 0 where
   pub acts : o ≡ powerOf (recordsOf map) store image who
@@ -113,3 +112,21 @@ pub record AcceptedAgain (map store image : List ℕ) : Type 0 where
 
 abbrev pub Accepted-again : Type 0
 Accepted-again = (map store image : List ℕ) → AcceptedAgain map store image
+
+-- each of a list of inputs is accepted, one after the other
+abbrev pub AllAccepted : List ℕ → List ℕ → List ℕ → State → List Input → Type 0
+AllAccepted map image store s [] = Unit {0}
+AllAccepted map image store s (x ∷ xs) =
+    let o : Outcome Stepped = inputOf map image store s x in
+    (numberOf o ≡ 0) × AllAccepted map image (o .store) (o .answer .state) xs
+
+-- a power-on, or a frame: a number below 16,777,216
+abbrev pub isInput : Input → Bool
+isInput power-on = true
+isInput (hears heard) = ltb (heard .frame) 16777216
+
+-- after an accepted start no power-on and no frame is ever refused: who runs many frames checks once
+abbrev pub Run-accepted : Type 0
+Run-accepted = (map store image : List ℕ) (who : Who) → startNumber map store (length image) who ≡ 0
+    → (xs : List Input) → every isInput xs ≡ true
+    → AllAccepted map image (startOf map store image who .store) (startOf map store image who .answer .state) xs

@@ -134,9 +134,10 @@ Leaves s store heard closing o (Loads registers) =
 -- only the answer, and the door where the query closes
 Leaves s store heard closing o (Answers byte) =
     WhoStays s o × RegistersStay s o × NoneWaits o × DoorBy closing s o × LatchStays s o × StoreStays store o
--- DTR0, staging, the store, the answer; writes don't touch the latch, nor close
+-- DTR0, staging, the store, the answer except in the no-reply form; writes don't touch the latch, nor close
 Leaves s store heard closing o (Writes bank location byte replying) =
-    WhoStays s o × Dtr0Rises location s o × NoneWaits o × (o .answer .state .door .enabled ≡ s .door .enabled) × LatchStays s o
+    WhoStays s o × Dtr0Rises location s o × NoneWaits o × (o .answer .state .door .enabled ≡ s .door .enabled)
+    × LatchStays s o × (replying ≡ false → Unanswered o)
 -- DTR0, the latch, the answer, and the door by closing
 Leaves s store heard closing o (Reads bank location) =
     WhoStays s o × Dtr0Rises location s o × NoneWaits o × DoorShut o × StoreStays store o

@@ -1,6 +1,7 @@
 pub mod State
 pub mod Rules
 pub mod Due
+pub mod Codes
 pub mod Step
 pub mod Run
 pub mod Promises
@@ -8,3 +9,4 @@ pub mod Leaving
 pub mod Keeping
 pub mod Bench
 pub mod Cases
+pub mod Worked

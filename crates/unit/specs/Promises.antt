@@ -59,7 +59,7 @@ pub record Numbered (map store image : List ℕ) : Type 0 where
   pub step-replies : (s : State) (heard : Heard)
       → numberOf (stepOf map store image s heard) ≡ stepNumber map store (length image) s (heard .frame)
 
--- the order of the tests: in each call 7 to 11 come first; then 6 at a start, 12 at a later power-on, 12 and 1 at a step
+-- the order of the tests: in each call 7 to 11 come first; then 6 at a start, 12 at a power-on, 12 and 1 at a step
 pub record InOrder (map store : List ℕ) (kept : ℕ) : Type 0 where
   pub start-first : (who : Who) → 0 < checkNumber map store kept
       → startNumber map store kept who ≡ checkNumber map store kept

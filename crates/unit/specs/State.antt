@@ -1,7 +1,6 @@
 -- The state in rooms: one setter for each room, and what stands in a room that is not in use.
 -- Paper 01, "State and clock".
 -- Assumes nothing.
-use Prim.Native.Nat.{ℕ}
 use mathlib.Core.Bool.{true, false}
 use Rattle.hearing.specs.Pairs.{noneWaits}
 use Rattle.hearing.specs.declared.rooms.Who.{Who}

@@ -21,14 +21,16 @@ use Rattle.memory.specs.Filled.{filledOf}
 use Rattle.memory.specs.declared.staged.Wrote.{Wrote}
 use Rattle.memory.specs.declared.latched.Shown.{Shown}
 use Rattle.memory.specs.declared.filled.Filling.the-variants.{PowerOn, Reset}
-use Rattle.unit.specs.State.{withWho, withRegisters, withWaiting, withDoor, withLatch, shutDoor, openDoor, poweredOn, zeroState}
+use Rattle.unit.specs.State.{withWho, withRegisters, withWaiting, withDoor, withLatch, shutDoor, openDoor}
+use Rattle.unit.specs.State.{poweredOn, zeroState}
 use Rattle.unit.specs.Rules.{addressHolds, stateHolds}
 use Rattle.unit.specs.Due.{withDtr, dueOf}
 use Rattle.unit.specs.declared.state.State.{State}
 use Rattle.unit.specs.declared.state.Reply.{Reply}
 use Rattle.unit.specs.declared.state.Stepped.{Stepped}
 use Rattle.unit.specs.declared.due.Due.{Due}
-use Rattle.unit.specs.declared.due.Due.the-variants.{Nothing, Waits, Opens, Resets, Becomes, Loads, Answers, Writes, Reads}
+use Rattle.unit.specs.declared.due.Due.the-variants.{Nothing, Waits, Opens, Resets, Becomes, Loads, Answers}
+use Rattle.unit.specs.declared.due.Due.the-variants.{Writes, Reads}
 
 -- 0: accepted
 abbrev pub accepted : Bool → ℕ → Reply

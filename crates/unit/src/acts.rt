@@ -29,11 +29,11 @@ use memory::Filling;
 pub fn hear(state: State, closing: bool) -> State
     ensures { λ r. ⌜ r ≡ hearing state closing ⌝ }
 {
-    let none = hearing::none_waits();
+    let cleared = with_waiting(state, hearing::none_waits());
     if closing {
-        return with_waiting(with_door(state, shut_door()), none);
+        return with_door(cleared, shut_door());
     }
-    with_waiting(state, none)
+    cleared
 }
 
 // DTR0 rises by one unless 0xFF.

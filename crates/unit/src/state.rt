@@ -1,7 +1,7 @@
 // The state, in rooms, and what a call hands back.
 ghost use mathlib.Core.Path.{_≡_};
 ghost use Rattle.unit.specs.State.{withWho, withRegisters, withWaiting, withDoor, withLatch};
-ghost use Rattle.unit.specs.State.{zeroRegisters, shutDoor, openDoor, poweredOn};
+ghost use Rattle.unit.specs.State.{shutDoor, openDoor, poweredOn};
 ghost use Rattle.unit.specs.Step.{accepted, quiet, answering, refusing};
 use hearing::Waiting;
 use hearing::Who;

@@ -1,8 +1,8 @@
 -- `hearing::asked::is_member` meets its contract.
 -- Assumes nothing.
-use borrow.Author.Needs.{needs}
 use native.Mathlib.Nat.{div-eq-of-lt, lt-of-lt-of-le}
 use lib.Pow.{pow-mono}
+use borrow.Author.Needs.{needs}
 use Rattle.hearing.proofs.asked.is_member.Statement.{statement}
 use Rattle.hearing.proofs.asked.is_member.Tie as tie
 

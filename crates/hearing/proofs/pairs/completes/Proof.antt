@@ -1,9 +1,9 @@
 -- `hearing::pairs::completes` meets its contract; the wrapped difference is the time that has passed.
 -- Assumes nothing.
-use borrow.Author.Needs.{needs}
 use mathlib.Core.Path.{_≡_}
 use Prim.Native.Nat.{_+_, _-_, _%_, _^_}
 use native.Mathlib.Omega.{arith}
+use borrow.Author.Needs.{needs}
 use Rattle.hearing.specs.Pairs.{passed, inTime, completes}
 use Rattle.hearing.proofs.pairs.completes.Statement.{statement}
 use Rattle.hearing.proofs.pairs.completes.Tie as tie

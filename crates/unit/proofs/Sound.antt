@@ -1,0 +1,87 @@
+-- What number 0 says of map, store and state: 7 to 11 stand, and the rules of a state hold; and back.
+-- Assumes nothing.
+use Prim.Native.Nat.{ℕ, zero, suc, _+_, _<_}
+use mathlib.Core.Path.{_≡_, refl, sym, _∙_}
+use mathlib.Core.Bool.{true}
+use mathlib.Core.List.{List, _++_}
+use native.Mathlib.Omega.{arith}
+use borrow.Author.Tests.{lt-ltb}
+use Rattle.laws.specs.Lists.{every}
+use Rattle.laws.specs.Numbers.{Test, firstFailing, numbered}
+use Rattle.laws.proofs.Sides.{and-left}
+use Rattle.laws.proofs.Numbers.{none-exactly-if}
+use Rattle.laws.proofs.Joined.{joined-none, joined-some}
+use Rattle.banks.specs.Map.{recordsOf}
+use Rattle.banks.specs.Rules.{checkTests, checkNumber}
+use Rattle.banks.specs.Facts.{Stands}
+use Rattle.banks.proofs.Standing.{check-stands}
+use Rattle.hearing.specs.declared.rooms.Who.{Who}
+use Rattle.unit.specs.Rules.{addressHolds, stateHolds}
+use Rattle.unit.specs.Step.{startNumber, powerNumber, stepNumber}
+use Rattle.unit.specs.declared.state.State.{State}
+use Rattle.unit.proofs.Numbers.{startsBehind, powersBehind, stepsBehind}
+use Rattle.unit.proofs.Keeping.{RulesHold, rules-hold, state-holds}
+
+first-none : (ts us : List Test) → firstFailing (ts ++ us) ≡ 0 → firstFailing ts ≡ 0
+first-none ts us e = go (firstFailing ts) refl
+  where
+    go : (k : ℕ) → firstFailing ts ≡ k → k ≡ 0
+    go zero q = refl
+    go (suc k) q = sym (joined-some ts us (suc k) (omega arith) q) ∙ e
+
+last-none : (ts us : List Test) → numbered ts ≡ true → firstFailing (ts ++ us) ≡ 0 → firstFailing us ≡ 0
+last-none ts us k e = sym (joined-none ts us k (first-none ts us e)) ∙ e
+
+-- map, store and state keep 7 to 12
+pub record Sound (map store : List ℕ) (kept : ℕ) (s : State) : Type 0 where
+  pub standing : Stands map store kept
+  pub rules : RulesHold (recordsOf map) store s
+
+module _ (map store : List ℕ) (kept : ℕ) where
+  -- what the tests of a state and a frame say, behind 7 to 11
+  parted : (us : List Test) → numbered us ≡ true → firstFailing (checkTests map store kept ++ us) ≡ 0
+      → Stands map store kept × (every (λ t. t .passes) us ≡ true)
+  unfolding checkNumber
+  parted us k e =
+      let ts = checkTests map store kept in
+      (check-stands map store kept .0 (first-none ts us e), none-exactly-if us k .0 (last-none ts us refl e))
+
+  joined : (us : List Test) → numbered us ≡ true → Stands map store kept → every (λ t. t .passes) us ≡ true
+      → firstFailing (checkTests map store kept ++ us) ≡ 0
+  unfolding checkNumber
+  joined us k S e =
+      joined-none (checkTests map store kept) us refl (check-stands map store kept .1 S) ∙ none-exactly-if us k .1 e
+
+  pub start-sound : (who : Who) → startNumber map store kept who ≡ 0
+      → Stands map store kept × (addressHolds (who .address) ≡ true)
+  unfolding startNumber
+  start-sound who e =
+      let p = parted (startsBehind who) refl e in
+      (p .0, and-left (addressHolds (who .address)) true (p .1))
+
+  pub power-sound : (s : State) → powerNumber map store kept s ≡ 0 → Sound map store kept s
+  unfolding powerNumber
+  power-sound s e =
+      let rs = recordsOf map in
+      let p = parted (powersBehind map store s) refl e in
+      record { standing = p .0; rules = rules-hold rs store s (and-left (stateHolds rs store s) true (p .1)) }
+
+  pub step-sound : (s : State) (frame : ℕ) → stepNumber map store kept s frame ≡ 0 → Sound map store kept s
+  unfolding stepNumber
+  step-sound s frame e =
+      let rs = recordsOf map in
+      let p = parted (stepsBehind map store s frame) refl e in
+      record { standing = p .0; rules = rules-hold rs store s (and-left (stateHolds rs store s) _ (p .1)) }
+
+  pub sound-power : (s : State) → Sound map store kept s → powerNumber map store kept s ≡ 0
+  unfolding powerNumber
+  sound-power s h =
+      joined (powersBehind map store s) refl (h .standing)
+      (rw (state-holds (recordsOf map) store s (h .rules)))
+
+  pub sound-step : (s : State) (frame : ℕ) → Sound map store kept s → frame < 16777216
+      → stepNumber map store kept s frame ≡ 0
+  unfolding stepNumber
+  sound-step s frame h l =
+      joined (stepsBehind map store s frame) refl (h .standing)
+      (rw (state-holds (recordsOf map) store s (h .rules), lt-ltb frame 16777216 l))
