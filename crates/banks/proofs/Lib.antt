@@ -6,3 +6,4 @@ pub mod Standing
 pub mod Looks
 pub mod Values
 pub mod Cases
+pub mod ForHistory

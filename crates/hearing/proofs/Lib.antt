@@ -3,3 +3,4 @@ pub mod Foreign
 pub mod Closing
 pub mod PairRule
 pub mod Addressing
+pub mod ForHistory

@@ -8,3 +8,5 @@ pub mod LatchRoom
 pub mod Fills
 pub mod Locks
 pub mod Filling
+pub mod ForHistoryStaged
+pub mod ForHistoryFilled

@@ -1,0 +1,325 @@
+-- The unit's address, groups, DTRs and write-enable are the grammar's context, and its staged bytes and store move by
+-- the deed of each input.
+-- Assumes nothing.
+use mathlib.Core.Path.{_≡_, refl, sym, ap, _∙_}
+use mathlib.Core.Bool.{Bool, true, false, not, _&&_}
+use mathlib.Core.List.{List, [], _∷_}
+use Prim.Native.Nat.{ℕ}
+use native.Mathlib.Omega.{arith}
+use lib.ListN.{length}
+use Rattle.laws.specs.Choice.{if_then_else_}
+use Rattle.laws.specs.Outcome.{Outcome}
+use Rattle.banks.specs.Map.{recordsOf, mapped}
+use Rattle.banks.specs.declared.record.Record.{Record}
+use Rattle.hearing.specs.Meaning.{meaningOf}
+use Rattle.hearing.specs.Pairs.{noneWaits, waitsFor, inTime, completes}
+use Rattle.hearing.specs.declared.rooms.Who.{Who}
+use Rattle.hearing.specs.declared.rooms.Heard.{Heard}
+use Rattle.hearing.specs.declared.rooms.Waiting.{Waiting}
+use Rattle.hearing.specs.declared.meaning.Once.{Once}
+use Rattle.hearing.specs.declared.meaning.Once.the-variants.{QueryMissingShortAddress, QueryContentDtr}
+use Rattle.hearing.specs.declared.meaning.Once.the-variants.{QueryDeviceGroups}
+use Rattle.hearing.specs.declared.meaning.Once.the-variants.{ReadMemoryLocation, WriteMemoryLocation, DirectWriteMemory}
+use Rattle.hearing.specs.declared.meaning.Once.the-variants.{SetDtr, SetDtrs}
+use Rattle.hearing.specs.declared.meaning.Twice.{Twice}
+use Rattle.hearing.specs.declared.meaning.Twice.the-variants.{ResetMemoryBank, SetShortAddress, EnableWriteMemory}
+use Rattle.hearing.specs.declared.meaning.Twice.the-variants.{AddToDeviceGroups, RemoveFromDeviceGroups}
+use Rattle.hearing.specs.declared.meaning.Meaning.{Meaning}
+use Rattle.hearing.specs.declared.meaning.Meaning.the-variants.{Foreign, NotObeyed, AtOnce, NeedsPair}
+use Rattle.hearing.proofs.ForHistory.{none-completes, one-completes, in-time-equal}
+use Rattle.memory.specs.Staged.{noneStaged, writeOf}
+use Rattle.memory.specs.Filled.{filledOf}
+use Rattle.memory.specs.declared.staged.Staged.{Staged}
+use Rattle.memory.specs.declared.filled.Filling.the-variants.{PowerOn, Reset}
+use Rattle.banks.specs.Facts.{Stands}
+use Rattle.unit.specs.Run.{Input, power-on, hears}
+use Rattle.unit.specs.State.{zeroRegisters}
+use Rattle.unit.specs.State.{shutDoor}
+use Rattle.unit.specs.Step.{frameOf, powerOf}
+use Rattle.unit.specs.declared.state.Stepped.{Stepped}
+use Rattle.unit.specs.declared.state.State.{State}
+use Rattle.unit.proofs.ForHistory.{Ready, step-accepted, power-accepted, start-accepted}
+use Rattle.unit.proofs.ForHistory.{Rooms, roomsOf, power-rooms, foreign-leaves, not-obeyed-leaves, missing-leaves}
+use Rattle.unit.proofs.ForHistory.{content-leaves, groups-leaves}
+use Rattle.unit.proofs.ForHistory.{dtr-leaves, dtrs-leaves, read-leaves, WritesAt, at-dtr0, at-offset, write-leaves}
+use Rattle.unit.proofs.ForHistory.{no-write-leaves}
+use Rattle.unit.proofs.ForHistory.{reset-leaves, enable-leaves, short-leaves, add-leaves, remove-leaves, half-leaves}
+use Rattle.history.specs.Machine.{Left, after, Accepted, unitMachine}
+use Rattle.history.specs.Pairs.{endsPair}
+use Rattle.history.specs.Deeds.{Context, Deed, opens, resets, puts, keeps, breaks, powers, executes, writeDeed}
+use Rattle.history.specs.Deeds.{onceDeed, pairDeed, deedBy, deedOf}
+use Rattle.history.specs.Deeds.{keeping, enabledBy}
+use Rattle.history.specs.Context.{raisedFrom, onceRegisters, registersOf, pairWho, whoOf, meant, heardIn}
+use Rattle.history.specs.Context.{poweredIn, context, deedAfter}
+
+-- the unit's rooms, as a context
+abbrev pub contextIn : State → Context
+contextIn s = record { who = s .who; registers = s .registers; enabled = s .door .enabled }
+
+abbrev contextOf : Rooms → Context
+contextOf r = record { who = r .who; registers = r .registers; enabled = r .door .enabled }
+
+-- what a deed does to the staged bytes, and to the store
+unfoldable pub stagedBy : List Record → List ℕ → Staged → Deed → Staged
+stagedBy rs store g opens = noneStaged
+stagedBy rs store g (resets dtr0) = noneStaged
+stagedBy rs store g (puts bank location byte) = writeOf rs store g bank location byte .answer .staged
+stagedBy rs store g keeps = g
+stagedBy rs store g breaks = noneStaged
+stagedBy rs store g powers = noneStaged
+
+unfoldable pub storeBy : List Record → List ℕ → List ℕ → Staged → Deed → List ℕ
+storeBy rs image store g opens = store
+storeBy rs image store g (resets dtr0) = filledOf rs store image (Reset dtr0)
+storeBy rs image store g (puts bank location byte) = writeOf rs store g bank location byte .store
+storeBy rs image store g keeps = store
+storeBy rs image store g breaks = store
+storeBy rs image store g powers = filledOf rs store image PowerOn
+
+-- a pair command that ends no pair waits; nothing else does
+abbrev waitingBy : Heard → Bool → Meaning → Waiting
+waitingBy x pair Foreign = noneWaits
+waitingBy x pair NotObeyed = noneWaits
+waitingBy x pair (AtOnce c) = noneWaits
+waitingBy x pair (NeedsPair c) = if pair then noneWaits else waitsFor x
+
+-- what a history sees of the rooms
+record View : Type 0 where
+  context : Context
+  waiting : Waiting
+  staged : Staged
+  store : List ℕ
+
+abbrev view : Rooms → View
+view r = record { context = contextOf r; waiting = r .waiting; staged = r .door .staged; store = r .store }
+
+abbrev viewBy : List Record → List ℕ → List ℕ → Staged → Context → Waiting → Deed → View
+viewBy rs image store g k w d =
+    record { context = k; waiting = w; staged = stagedBy rs store g d; store = storeBy rs image store g d }
+
+module _ (rs : List Record) (image store : List ℕ) (s : State) (x : Heard) where
+  abbrev Moves : Bool → Meaning → Type 0
+  Moves p m =
+      view (roomsOf (frameOf rs store image s x))
+      ≡ viewBy rs image store (s .door .staged) (heardIn rs (contextIn s) p m) (waitingBy x p m)
+      (deedOf rs (contextIn s) p m)
+
+  -- a write executes or not
+  write-moves : (location byte : ℕ) → WritesAt rs store image s x location byte
+      → (b : Bool) → (s .door .enabled && mapped rs (s .registers .dtr1)) ≡ b
+      → view (roomsOf (frameOf rs store image s x))
+      ≡ viewBy rs image store (s .door .staged)
+      (record {
+        who = s .who;
+        registers = if b then raisedFrom (s .registers) location else s .registers;
+        enabled = enabledBy (s .door .enabled) (if b then puts (s .registers .dtr1) location byte else keeps);
+      })
+      noneWaits (if b then puts (s .registers .dtr1) location byte else keeps)
+  unfolding enabledBy keeping raisedFrom stagedBy storeBy
+  write-moves location byte w true b = ap view (write-leaves rs store image s x location byte w b)
+  write-moves location byte w false b = ap view (no-write-leaves rs store image s x location byte w b)
+
+  once-moves : (p : Bool) (c : Once) → meaningOf (s .who) (x .frame) ≡ AtOnce c → Moves p (AtOnce c)
+  unfolding heardIn registersOf onceRegisters raisedFrom whoOf deedOf deedBy onceDeed writeDeed executes enabledBy
+      keeping stagedBy storeBy
+  once-moves p QueryMissingShortAddress e = ap view (missing-leaves rs store image s x e)
+  once-moves p (QueryContentDtr k) e = ap view (content-leaves rs store image s x k e)
+  once-moves p ReadMemoryLocation e = ap view (read-leaves rs store image s x e)
+  once-moves p (QueryDeviceGroups k) e = ap view (groups-leaves rs store image s x k e)
+  once-moves p (WriteMemoryLocation byte replies) e =
+      write-moves (s .registers .dtr0) byte (at-dtr0 e) (s .door .enabled && mapped rs (s .registers .dtr1)) refl
+  once-moves p (DirectWriteMemory offset byte) e =
+      write-moves offset byte (at-offset e) (s .door .enabled && mapped rs (s .registers .dtr1)) refl
+  once-moves p (SetDtr k byte) e = ap view (dtr-leaves rs store image s x k byte e)
+  once-moves p (SetDtrs k high low) e = ap view (dtrs-leaves rs store image s x k high low e)
+
+  pair-moves : (c : Twice) → completes (s .waiting) x ≡ true → meaningOf (s .who) (x .frame) ≡ NeedsPair c
+      → Moves true (NeedsPair c)
+  unfolding heardIn registersOf pairWho whoOf deedOf deedBy pairDeed enabledBy keeping stagedBy storeBy
+  pair-moves ResetMemoryBank q e = ap view (reset-leaves rs store image s x q e)
+  pair-moves SetShortAddress q e = ap view (short-leaves rs store image s x q e)
+  pair-moves EnableWriteMemory q e = ap view (enable-leaves rs store image s x q e)
+  pair-moves (AddToDeviceGroups half) q e = ap view (add-leaves rs store image s x q half e)
+  pair-moves (RemoveFromDeviceGroups half) q e = ap view (remove-leaves rs store image s x q half e)
+
+  -- a frame moves the rooms as the grammar says, if it ends a pair by the unit exactly if it does by the list
+  moves : (m : Meaning) (p : Bool) → meaningOf (s .who) (x .frame) ≡ m
+      → ((c : Twice) → m ≡ NeedsPair c → completes (s .waiting) x ≡ p) → Moves p m
+  unfolding heardIn registersOf whoOf deedOf deedBy enabledBy keeping stagedBy storeBy
+  moves Foreign p e q = ap view (foreign-leaves rs store image s x e)
+  moves NotObeyed p e q = ap view (not-obeyed-leaves rs store image s x e)
+  moves (AtOnce c) p e q = once-moves p c e
+  moves (NeedsPair c) true e q = pair-moves c (q c refl) e
+  moves (NeedsPair c) false e q = ap view (half-leaves rs store image s x c (q c refl) e)
+
+-- ---- the waiting frame is the pair rule of the list
+
+and-no : (b : Bool) → (b && false) ≡ false
+and-no true = refl
+and-no false = refl
+
+and-yes : (b : Bool) → (b && true) ≡ b
+and-yes true = refl
+and-yes false = refl
+
+module _ (y x : Heard) (p : Bool) (before now : Who) (c : Twice) (is : meaningOf now (x .frame) ≡ NeedsPair c) where
+  -- where y is no pair command and left address and groups, x does not repeat it
+  no-repeat : (m : Meaning) → meaningOf before (y .frame) ≡ m → before ≡ now → (m ≡ NeedsPair c → ⊥)
+      → inTime y x ≡ false
+  no-repeat m e w no′ = go (inTime y x) refl
+    where
+      go : (b : Bool) → inTime y x ≡ b → b ≡ false
+      go true b = absurd (no′ (sym e ∙ ap (λ (n : ℕ). meaningOf before n) (in-time-equal y x b) ∙ rw w is))
+      go false b = refl
+
+  -- after y, the frame that waits makes a pair with x exactly if y ends no pair and x repeats it in time
+  repeats : (m : Meaning) → meaningOf before (y .frame) ≡ m → (k : Context) → whoOf k p m ≡ now → k .who ≡ before
+      → completes (waitingBy y p m) x ≡ (inTime y x && not p)
+  unfolding whoOf
+  repeats Foreign e k w b =
+      rw (none-completes x, no-repeat Foreign e (sym b ∙ w) (λ z. let q : _≡_ {A = ℕ} 0 1 = cc in omega arith))
+  repeats NotObeyed e k w b =
+      rw (none-completes x, no-repeat NotObeyed e (sym b ∙ w) (λ z. let q : _≡_ {A = ℕ} 0 1 = cc in omega arith))
+  repeats (AtOnce d) e k w b =
+      rw (none-completes x, no-repeat (AtOnce d) e (sym b ∙ w) (λ z. let q : _≡_ {A = ℕ} 0 1 = cc in omega arith))
+  repeats (NeedsPair d) e k w b = go p
+    where
+      go : (b : Bool) → completes (if b then noneWaits else waitsFor y) x ≡ (inTime y x && not b)
+      go true = rw (none-completes x, and-no (inTime y x))
+      go false = rw (one-completes y x, and-yes (inTime y x))
+
+-- ---- over a history of accepted calls
+
+abbrev roomsIn : Left State → Rooms
+roomsIn l =
+    record {
+      who = l .state .who;
+      registers = l .state .registers;
+      waiting = l .state .waiting;
+      door = l .state .door;
+      store = l .store;
+    }
+
+module _ (map store image : List ℕ) (who : Who) where
+  abbrev pub Runs : List Input → Type 0
+  Runs h = Accepted unitMachine map store image who h
+
+  abbrev pub at : List Input → Left State
+  at h = after unitMachine map store image who h
+
+  frame-rooms : (x : Heard) (h : List Input) → Runs (hears x ∷ h)
+      → roomsIn (at (hears x ∷ h)) ≡ roomsOf (frameOf (recordsOf map) (at h .store) image (at h .state) x)
+  unfolding unitMachine
+  frame-rooms x h A = ap (λ (o : Outcome Stepped). roomsOf o)
+      (step-accepted map (at h .store) image (at h .state) x (A .0) .1)
+
+  -- start and power-on
+  fresh-rooms : (s : List ℕ) (w : Who) (l : Left State) → roomsIn l ≡ roomsOf (powerOf (recordsOf map) s image w)
+      → roomsIn l ≡ record {
+        who = w;
+        registers = zeroRegisters;
+        waiting = noneWaits;
+        door = shutDoor;
+        store =
+            filledOf (recordsOf map) s image PowerOn;
+      }
+  fresh-rooms s w l e = e ∙ power-rooms (recordsOf map) s image w
+
+  start-rooms : Runs [] → roomsIn (at []) ≡ roomsOf (powerOf (recordsOf map) store image who)
+  unfolding unitMachine
+  start-rooms A = ap (λ (o : Outcome Stepped). roomsOf o) (start-accepted map store image who A .1)
+
+  power-rooms-at : (h : List Input) → Runs (power-on ∷ h)
+      → roomsIn (at (power-on ∷ h)) ≡ roomsOf (powerOf (recordsOf map) (at h .store) image (at h .state .who))
+  unfolding unitMachine
+  power-rooms-at h A = ap (λ (o : Outcome Stepped). roomsOf o)
+      (power-accepted map (at h .store) image (at h .state) (A .0) .1)
+
+  -- a pair command for the unit makes a pair with the waiting frame exactly if it ends a pair of the list
+  pub halves : (h : List Input) → Runs h → (x : Heard) (c : Twice)
+      → meaningOf (at h .state .who) (x .frame) ≡ NeedsPair c
+      → completes (at h .state .waiting) x ≡ endsPair h x
+  unfolding endsPair
+  halves [] A x c e =
+      let w : at [] .state .waiting ≡ noneWaits = ap (λ (r : Rooms). r .waiting)
+      (fresh-rooms store who (at []) (start-rooms A)) in
+      rw w (none-completes x)
+  halves (power-on ∷ h) A x c e =
+      let w : at (power-on ∷ h) .state .waiting ≡ noneWaits =
+      ap (λ (r : Rooms). r .waiting) (fresh-rooms (at h .store) (at h .state .who) (at (power-on ∷ h))
+      (power-rooms-at h A)) in
+      rw w (none-completes x)
+  halves (hears y ∷ h) A x c e =
+      let s : State = at h .state in
+      let m : Meaning = meaningOf (s .who) (y .frame) in
+      let M = moves (recordsOf map) image (at h .store) s y m (endsPair h y) refl (λ d q. halves h (A .1) y d q) in
+      let F = frame-rooms y h A in
+      let w : at (hears y ∷ h) .state .waiting ≡ waitingBy y (endsPair h y) m = ap (λ (r : Rooms). r .waiting) F
+      ∙ ap (λ (u : View). u .waiting) M in
+      let k : at (hears y ∷ h) .state .who ≡ whoOf (contextIn s) (endsPair h y) m =
+      ap (λ (r : Rooms). r .who) F ∙ ap (λ (u : View). u .context .who) M ∙ unfold heardIn in refl in
+      rw w (repeats y x (endsPair h y) (s .who) (at (hears y ∷ h) .state .who) c e m refl (contextIn s) (sym k) refl)
+
+  -- a frame's move, by the unit's own rooms
+  frame-moved : (x : Heard) (h : List Input) → Runs (hears x ∷ h)
+      → let s : State = at h .state in let m : Meaning = meaningOf (s .who) (x .frame) in
+      view (roomsIn (at (hears x ∷ h)))
+      ≡ viewBy (recordsOf map) image (at h .store) (s .door .staged)
+      (heardIn (recordsOf map) (contextIn s) (endsPair h x) m) (waitingBy x (endsPair h x) m)
+      (deedOf (recordsOf map) (contextIn s) (endsPair h x) m)
+  frame-moved x h A =
+      ap view (frame-rooms x h A)
+      ∙ moves (recordsOf map) image (at h .store) (at h .state) x _ (endsPair h x) refl (λ c q. halves h (A .1) x c q)
+
+  -- the unit's context is the grammar's
+  pub agree : (h : List Input) → Runs h → contextIn (at h .state) ≡ context (recordsOf map) who h
+  unfolding context poweredIn meant
+  agree [] A = ap contextOf (fresh-rooms store who (at []) (start-rooms A))
+  agree (power-on ∷ h) A =
+      ap contextOf (fresh-rooms (at h .store) (at h .state .who) (at (power-on ∷ h)) (power-rooms-at h A))
+      ∙ ap (λ (k : Context). poweredIn (k .who)) (agree h (A .1))
+  agree (hears x ∷ h) A =
+      ap (λ (u : View). u .context) (frame-moved x h A)
+      ∙ ap (λ (k : Context). heardIn (recordsOf map) k (endsPair h x) (meant k x)) (agree h (A .1))
+
+  -- what an input does to the staged bytes and to the store, by the grammar's reading of it
+  pub record Done (x : Input) (h : List Input) : Type 0 where
+    pub staged-is : at (x ∷ h) .state .door .staged
+        ≡ stagedBy (recordsOf map) (at h .store) (at h .state .door .staged) (deedAfter (recordsOf map) who h x)
+    pub store-is : at (x ∷ h) .store ≡ storeBy (recordsOf map) image (at h .store) (at h .state .door .staged)
+        (deedAfter (recordsOf map) who h x)
+
+  pub done-by : (x : Input) (h : List Input) → Runs (x ∷ h) → Done x h
+  unfolding deedAfter meant stagedBy storeBy
+  done-by power-on h A =
+      let F = fresh-rooms (at h .store) (at h .state .who) (at (power-on ∷ h)) (power-rooms-at h A) in
+      record { staged-is = ap (λ (r : Rooms). r .door .staged) F; store-is = ap (λ (r : Rooms). r .store) F }
+  done-by (hears x) h A =
+      let M = frame-moved x h A in
+      let d : deedOf (recordsOf map) (contextIn (at h .state)) (endsPair h x) (meaningOf (at h .state .who) (x .frame))
+      ≡ deedAfter (recordsOf map) who h (hears x) =
+      ap (λ (k : Context). deedOf (recordsOf map) k (endsPair h x) (meant k x)) (agree h (A .1)) in
+      record {
+        staged-is = ap (λ (u : View). u .staged) M
+            ∙ ap (stagedBy (recordsOf map) (at h .store) (at h .state .door .staged)) d;
+        store-is = ap (λ (u : View). u .store) M
+            ∙ ap (storeBy (recordsOf map) image (at h .store) (at h .state .door .staged)) d;
+      }
+
+  -- the start leaves nothing staged, and the store filled
+  pub start-staged : Runs [] → at [] .state .door .staged ≡ noneStaged
+  start-staged A = ap (λ (r : Rooms). r .door .staged) (fresh-rooms store who (at []) (start-rooms A))
+
+  pub start-store : Runs [] → at [] .store ≡ filledOf (recordsOf map) store image PowerOn
+  start-store A = ap (λ (r : Rooms). r .store) (fresh-rooms store who (at []) (start-rooms A))
+
+  -- what an accepted input was handed
+  pub ready : (x : Input) (h : List Input) → Runs (x ∷ h) → Ready map (at h .store) image (at h .state)
+  unfolding unitMachine
+  ready power-on h A = power-accepted map (at h .store) image (at h .state) (A .0) .0
+  ready (hears x) h A = step-accepted map (at h .store) image (at h .state) x (A .0) .0
+
+  pub start-stands : (h : List Input) → Runs h → Stands map store (length image)
+  unfolding unitMachine
+  start-stands [] A = start-accepted map store image who A .0
+  start-stands (x ∷ h) A = start-stands h (A .1)

@@ -1,0 +1,13 @@
+pub mod Agree
+pub mod Progress
+pub mod Effects
+pub mod Invariant
+pub mod Growing
+pub mod Past
+pub mod Enabled
+pub mod Placed
+pub mod Valued
+pub mod Demand
+pub mod Computed
+pub mod Wrong
+pub mod Bench

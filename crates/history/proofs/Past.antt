@@ -1,0 +1,39 @@
+-- Inputs by their numbers: what one more input changes.
+-- Assumes nothing.
+use mathlib.Core.Path.{_≡_, ap}
+use mathlib.Core.Logic.{_⊎_, inl, inr}
+use mathlib.Core.List.{List, _∷_}
+use Prim.Native.Nat.{ℕ, suc, _-_, _≤_, _<_}
+use native.Mathlib.Omega.{arith}
+use native.Mathlib.Nat.{eq-or-lt-of-le}
+use lib.ListN.{length}
+use Rattle.banks.specs.declared.record.Record.{Record}
+use Rattle.hearing.specs.declared.rooms.Who.{Who}
+use Rattle.unit.specs.Run.{Input}
+use Rattle.history.specs.Context.{deedAfter}
+use Rattle.history.specs.Writing.{past, latest, deedAt}
+
+pub past-all : (h : List Input) → past h (length h) ≡ h
+unfolding past
+past-all h = let e : length h - length h ≡ 0 = omega arith in rw e
+
+pub past-old : (x : Input) (h : List Input) (i : ℕ) → i ≤ length h → past (x ∷ h) i ≡ past h i
+unfolding past
+past-old x h i k = let e : suc (length h) - i ≡ suc (length h - i) = omega arith in rw e
+
+module _ (rs : List Record) (who : Who) where
+  pub at-old : (x : Input) (h : List Input) (i : ℕ) → i < length h → deedAt rs who (x ∷ h) i ≡ deedAt rs who h i
+  unfolding deedAt
+  at-old x h i k = ap (latest rs who) (past-old x h (suc i) k)
+
+  pub at-new : (x : Input) (h : List Input) → deedAt rs who (x ∷ h) (length h) ≡ deedAfter rs who h x
+  unfolding deedAt latest
+  at-new x h = ap (latest rs who) (past-all (x ∷ h))
+
+-- the last, or an earlier one
+pub last-or : (j n : ℕ) → j < suc n → (j ≡ n) ⊎ (j < n)
+last-or j n h = go (eq-or-lt-of-le h)
+  where
+    go : (suc j ≡ suc n) ⊎ (suc j < suc n) → (j ≡ n) ⊎ (j < n)
+    go (inl e) = inl (omega arith)
+    go (inr e) = inr (omega arith)

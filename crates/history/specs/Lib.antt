@@ -1,0 +1,10 @@
+pub mod Pairs
+pub mod Deeds
+pub mod Context
+pub mod Lock
+pub mod Writing
+pub mod Value
+pub mod Machine
+pub mod Demand
+pub mod Wrong
+pub mod Bench

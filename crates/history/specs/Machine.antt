@@ -1,0 +1,48 @@
+-- A machine that is started, hears frames and is powered on; what it comes to after a history; and ours.
+-- Assumes nothing.
+use mathlib.Core.Path.{_≡_}
+use mathlib.Core.List.{List, [], _∷_}
+use Prim.Native.Nat.{ℕ}
+use Rattle.laws.specs.Outcome.{Outcome}
+use Rattle.hearing.specs.declared.rooms.Who.{Who}
+use Rattle.hearing.specs.declared.rooms.Heard.{Heard}
+use Rattle.unit.specs.Run.{Input, power-on, hears}
+use Rattle.unit.specs.Step.{startOf, stepOf, powerOnOf}
+use Rattle.unit.specs.declared.state.State.{State}
+use Rattle.unit.specs.declared.state.Stepped.{Stepped}
+
+-- what a call leaves: its number (0: accepted), the state and the store
+pub record Left (S : Type 0) : Type 0 where
+  pub number : ℕ
+  pub state : S
+  pub store : List ℕ
+
+-- start, frame step and power-on; the lists of bytes are map, store and image
+pub record Machine (S : Type 0) : Type 0 where
+  pub starts : List ℕ → List ℕ → List ℕ → Who → Left S
+  pub steps : List ℕ → List ℕ → List ℕ → S → Heard → Left S
+  pub powers-on : List ℕ → List ℕ → List ℕ → S → Left S
+
+module _ {S : Type 0} (machine : Machine S) (map store image : List ℕ) (who : Who) where
+  -- after a start and the inputs of h, the newest first
+  abbrev pub after : List Input → Left S
+  after [] = machine .starts map store image who
+  after (power-on ∷ h) = machine .powers-on map (after h .store) image (after h .state)
+  after (hears x ∷ h) = machine .steps map (after h .store) image (after h .state) x
+
+  -- the start and each input of h accepted
+  abbrev pub Accepted : List Input → Type 0
+  Accepted [] = after [] .number ≡ 0
+  Accepted (x ∷ h) = (after (x ∷ h) .number ≡ 0) × Accepted h
+
+-- an outcome of the public calls
+abbrev pub leftBy : Outcome Stepped → Left State
+leftBy o = record { number = o .answer .reply .number; state = o .answer .state; store = o .store }
+
+-- ours: the very definitions that the promises of start, step and power_on cite
+unfoldable pub unitMachine : Machine State
+unitMachine = record {
+  starts = λ map store image who. leftBy (startOf map store image who);
+  steps = λ map store image s x. leftBy (stepOf map store image s x);
+  powers-on = λ map store image s. leftBy (powerOnOf map store image s);
+}
