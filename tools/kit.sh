@@ -1,0 +1,31 @@
+# What every script here needs of the machine: the kit, packages, and the way to run a program that `rt` has built.
+
+say() { printf '%s\n' "$*" >&2; }
+
+# The kit is not a package: it has to be there.
+need_kit() {
+    command -v rt >/dev/null 2>&1 && return 0
+    say "mirto: the Rattle kit is not on this machine: no command 'rt' is found on PATH"
+    exit 1
+}
+
+# need COMMAND PACKAGE: installs the package by its name where the command is missing.
+need() {
+    command -v "$1" >/dev/null 2>&1 && return 0
+    say "mirto: '$1' is missing; installing the package '$2'"
+    { apt-get update && apt-get install -y "$2"; } >/dev/null 2>&1
+    command -v "$1" >/dev/null 2>&1 && return 0
+    say "mirto: '$1' is missing, and the package '$2' could not be installed (is there a network?)"
+    return 1
+}
+
+# run_program NAME: runs target/bin/NAME as `rt` does. Programs are for x86-64; on Arm the kit's emulator runs them.
+run_program() {
+    rt_file=$(readlink -f "$(command -v rt)")
+    built=${RATTLE_HOME:-$(dirname "$(dirname "$rt_file")")}/on/$(uname -m)/toolchain
+    emulator=$built/bin/qemu-x86_64
+    [ -x "$emulator" ] || emulator=''
+    program=$(pwd)/target/bin/$1
+    [ -f "$program" ] || { say "mirto: target/bin/$1 is not built"; return 1; }
+    ${emulator:+"$emulator"} "$built/lib/ld-linux-x86-64.so.2" --library-path "$built/lib" "$program"
+}
