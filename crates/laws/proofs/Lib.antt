@@ -7,3 +7,7 @@ pub mod Parts
 pub mod Numbers
 pub mod Settled
 pub mod Counts
+pub mod Sides
+pub mod Members
+pub mod Joined
+pub mod PartBytes

@@ -1,0 +1,86 @@
+-- What the rules 7 to 11 say, as facts about numbers: the floors above lean on these, and not on the tests.
+-- Assumes nothing.
+use mathlib.Core.Path.{_≡_}
+use mathlib.Core.Logic.{_⊎_}
+use mathlib.Core.Bool.{true}
+use mathlib.Core.List.{List, List·Memᴰ}
+use Prim.Native.Nat.{ℕ, _≤_, _<_}
+use lib.ListN.{length, getD}
+use Rattle.banks.specs.Map.{recordsOf, writable, locationsEnd, placesEnd}
+use Rattle.banks.specs.Rules.{ordered, placed, banksHold, headBytesHold}
+use Rattle.banks.specs.Lookup.{holder, valueOf, putValue, lockByte}
+use Rattle.banks.specs.Look.{lookOf, lookBytes}
+use Rattle.banks.specs.declared.record.Record.{Record}
+use Rattle.banks.specs.declared.holder.Found.the-variants.{At}
+use Rattle.banks.specs.declared.looked.Looked.{Looked}
+
+-- a record of the map
+abbrev pub Member : Record → List ℕ → Type 0
+Member r map = List·Memᴰ r (recordsOf map)
+
+-- map, store and an image of `kept` bytes pass 7 to 11
+pub record Stands (map store : List ℕ) (kept : ℕ) : Type 0 where
+  pub in-order : ordered map ≡ true
+  pub in-place : placed map (length store) ≡ true
+  pub as-long : kept ≡ length store
+  pub banks : banksHold (recordsOf map) ≡ true
+  pub heads : headBytesHold (recordsOf map) store ≡ true
+
+-- 8
+pub record Fielded (r : Record) : Type 0 where
+  pub low-bank : r .bank ≤ 199
+  pub some-width : 1 ≤ r .width
+  pub most-width : r .width ≤ 8
+  pub last : locationsEnd r ≤ 0xFF
+  pub low-kind : r .kind ≤ 4
+  pub locks : (r .lockable ≡ 0) ⊎ ((r .lockable ≡ 1) × (writable r ≡ true))
+
+-- 9
+abbrev pub Before : Record → Record → Type 0
+Before p r = (p .bank < r .bank) ⊎ ((p .bank ≡ r .bank) × (locationsEnd p ≤ r .first))
+
+-- 10
+abbrev pub Apart : Record → Record → Type 0
+Apart p r = (placesEnd p ≤ r .offset) ⊎ (placesEnd r ≤ p .offset)
+
+-- the location lies in the record
+pub record Holds (r : Record) (bank location : ℕ) : Type 0 where
+  pub same-bank : r .bank ≡ bank
+  pub from : r .first ≤ location
+  pub to : location < locationsEnd r
+
+-- what is known of the record that holds a location, in a map whose places lie in a store of n bytes
+pub record Within (map : List ℕ) (n bank location : ℕ) (r : Record) : Type 0 where
+  pub member : Member r map
+  pub holds : Holds r bank location
+  pub fields : Fielded r
+  pub inside : placesEnd r ≤ n
+
+-- 11: the bank's lock byte
+pub record LockRecord (map : List ℕ) (bank : ℕ) (r : Record) : Type 0 where
+  pub member : Member r map
+  pub its-bank : r .bank ≡ bank
+  pub its-first : r .first ≡ 0x02
+  pub its-width : r .width ≡ 1
+  pub its-kind : r .kind ≡ 2
+  pub no-lock : r .lockable ≡ 0
+
+-- the bytes of the value r, put into the store
+pub record Put (map store bytes : List ℕ) (r : Record) : Type 0 where
+  -- they are that value's bytes
+  pub there : valueOf r (putValue r bytes store) ≡ bytes
+  -- every other value stays
+  pub others : (s : Record) → Member s map → (s ≡ r → ⊥) → valueOf s (putValue r bytes store) ≡ valueOf s store
+  -- every byte under no record stays
+  pub unmapped : (j : ℕ) → ((s : Record) → Member s map → (j < s .offset) ⊎ (placesEnd s ≤ j)) → getD (putValue r bytes store) j 0 ≡ getD store j 0
+  -- every lock byte stays but one that is the value itself
+  pub locks : (bank : ℕ) → (holder (recordsOf map) bank 0x02 ≡ At r → ⊥) → lockByte (recordsOf map) (putValue r bytes store) bank ≡ lockByte (recordsOf map) store bank
+  pub as-long : length (putValue r bytes store) ≡ length store
+
+-- a look that found the value r
+pub record Shows (map store : List ℕ) (bank location : ℕ) (r : Record) : Type 0 where
+  pub member : Member r map
+  pub its-bank : r .bank ≡ bank
+  pub begins : r .first ≡ location
+  pub place : lookOf map store bank location ≡ record { number = 0; width = r .width; offset = r .offset }
+  pub bytes : lookBytes map store bank location ≡ valueOf r store

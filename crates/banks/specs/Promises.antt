@@ -1,0 +1,138 @@
+-- What is proved of the definitions: the numbers, the records, the values, the looks. The proofs stand in proofs/.
+-- Assumes nothing.
+use mathlib.Core.Path.{_≡_}
+use mathlib.Core.Logic.{_⊎_}
+use mathlib.Core.Bool.{true, false}
+use mathlib.Core.List.{List, []}
+use Prim.Native.Nat.{ℕ, _/_, _≤_, _<_}
+use lib.ListN.{length}
+use Rattle.laws.specs.Numbers.{Given}
+use Rattle.laws.specs.Settled.{Settles}
+use Rattle.banks.specs.Map.{recordAt, recordsOf, writable, placesEnd, mapped}
+use Rattle.banks.specs.Rules.{ordered, placed, banksHold, checkTests, checkNumber}
+use Rattle.banks.specs.Lookup.{holds, holder, beginner, valueOf, putValue}
+use Rattle.banks.specs.Look.{lookTests, lookNumber, lookOf, lookBytes}
+use Rattle.banks.specs.Facts.{Member, Stands, Fielded, Before, Apart, Holds, Within, LockRecord, Put, Shows}
+use Rattle.banks.specs.declared.record.Record.{Record}
+use Rattle.banks.specs.declared.holder.Found.the-variants.{At, Nothing}
+use Rattle.banks.specs.declared.looked.Looked.{Looked}
+
+-- The numbers.
+
+-- 7 to 11 are given exactly if every test before passes and that one fails
+abbrev pub CheckNumbers : Type 0
+CheckNumbers =
+    (map store : List ℕ) (kept n : ℕ) → 0 < n → (checkNumber map store kept ≡ n → Given (checkTests map store kept) n)
+    × (Given (checkTests map store kept) n → checkNumber map store kept ≡ n)
+
+-- 0 is given exactly if everything stands
+abbrev pub CheckStands : Type 0
+CheckStands =
+    (map store : List ℕ) (kept : ℕ) → (checkNumber map store kept ≡ 0 → Stands map store kept)
+    × (Stands map store kept → checkNumber map store kept ≡ 0)
+
+-- 7 to 11 and 14, in the same way
+abbrev pub LookNumbers : Type 0
+LookNumbers =
+    (map store : List ℕ) (bank location n : ℕ) → 0 < n → (lookNumber map store bank location ≡ n → Given (lookTests map store bank location) n)
+    × (Given (lookTests map store bank location) n → lookNumber map store bank location ≡ n)
+
+-- The records of a map.
+
+abbrev pub MemberFields : Type 0
+MemberFields = (map : List ℕ) → ordered map ≡ true → (r : Record) → Member r map → Fielded r
+
+abbrev pub MemberInside : Type 0
+MemberInside = (map : List ℕ) (n : ℕ) → placed map n ≡ true → (r : Record) → Member r map → placesEnd r ≤ n
+
+abbrev pub MembersApart : Type 0
+MembersApart = (map : List ℕ) (n : ℕ) → placed map n ≡ true → (r s : Record) → Member r map → Member s map → (r ≡ s) ⊎ Apart r s
+
+abbrev pub MembersRise : Type 0
+MembersRise = (map : List ℕ) → ordered map ≡ true → (i j : ℕ) → i < j → j < length map / 8 → Before (recordAt map i) (recordAt map j)
+
+-- The record that holds a location.
+
+abbrev pub HolderWithin : Type 0
+HolderWithin =
+    (map : List ℕ) (n bank location : ℕ) → placed map n ≡ true → (r : Record) → holder (recordsOf map) bank location ≡ At r → Within map n bank location r
+
+-- a location lies in at most one record
+abbrev pub HolderHit : Type 0
+HolderHit =
+    (map : List ℕ) → ordered map ≡ true → (bank location : ℕ) (r : Record) → Member r map → Holds r bank location → holder (recordsOf map) bank location ≡ At r
+
+-- none holds it exactly if no record does
+abbrev pub HolderNone : Type 0
+HolderNone =
+    (map : List ℕ) (bank location : ℕ) → (holder (recordsOf map) bank location ≡ Nothing → (r : Record) → Member r map → holds r bank location ≡ false)
+    × (((r : Record) → Member r map → holds r bank location ≡ false) → holder (recordsOf map) bank location ≡ Nothing)
+
+-- a record is found at its first location, and begins there
+abbrev pub FirstFound : Type 0
+FirstFound =
+    (map : List ℕ) → ordered map ≡ true → (r : Record) → Member r map → (holder (recordsOf map) (r .bank) (r .first) ≡ At r)
+    × (beginner (recordsOf map) (r .bank) (r .first) ≡ At r)
+
+-- a bank is mapped exactly if it has a record
+abbrev pub MappedMember : Type 0
+MappedMember =
+    (map : List ℕ) (bank : ℕ) → (mapped (recordsOf map) bank ≡ true → (r : Record) × Member r map × (r .bank ≡ bank))
+    × ((r : Record) → Member r map → r .bank ≡ bank → mapped (recordsOf map) bank ≡ true)
+
+-- Lock bytes.
+
+-- a mapped bank from 1 on has its lock byte at 0x02
+abbrev pub HasLock : Type 0
+HasLock =
+    (map : List ℕ) → ordered map ≡ true → banksHold (recordsOf map) ≡ true → (bank : ℕ) → 0 < bank → mapped (recordsOf map) bank ≡ true
+    → (r : Record) × LockRecord map bank r × (holder (recordsOf map) bank 0x02 ≡ At r)
+
+-- no writable value is in bank 0
+abbrev pub WritableBank : Type 0
+WritableBank = (map : List ℕ) → banksHold (recordsOf map) ≡ true → (r : Record) → Member r map → writable r ≡ true → 0 < r .bank
+
+-- Values, and what they leave alone.
+
+abbrev pub ValuePut : Type 0
+ValuePut =
+    (map store bytes : List ℕ) (r : Record) → placed map (length store) ≡ true → Member r map → length bytes ≡ r .width → Put map store bytes r
+
+-- two stores of one length that agree on what is not writable get the same number
+abbrev pub CheckStays : Type 0
+CheckStays =
+    (map s t : List ℕ) (kept : ℕ) → length s ≡ length t → ((r : Record) → Member r map → writable r ≡ false → valueOf r s ≡ valueOf r t)
+    → checkNumber map s kept ≡ checkNumber map t kept
+
+-- so a writable value may change, and what was checked once stays checked
+abbrev pub CheckStaysPut : Type 0
+CheckStaysPut =
+    (map store bytes : List ℕ) (kept : ℕ) (r : Record) → placed map (length store) ≡ true → Member r map → length bytes ≡ r .width → writable r ≡ true
+    → checkNumber map (putValue r bytes store) kept ≡ checkNumber map store kept
+
+-- The looks.
+
+-- the number is 0: the value that begins there, and its bytes
+abbrev pub LookShows : Type 0
+LookShows =
+    (map store : List ℕ) (bank location : ℕ) → lookNumber map store bank location ≡ 0 → (r : Record) × Shows map store bank location r
+
+-- the part is empty exactly if the number is not 0
+abbrev pub LookEmpty : Type 0
+LookEmpty =
+    (map store : List ℕ) (bank location : ℕ) → (lookBytes map store bank location ≡ [] → lookNumber map store bank location ≡ 0 → ⊥)
+    × ((lookNumber map store bank location ≡ 0 → ⊥) → lookBytes map store bank location ≡ [])
+
+-- Answers that meet the same promise are equal; of `look`, the bytes of the part are.
+
+abbrev pub CheckSettled : Type 0
+CheckSettled = (map store image : List ℕ) → Settles (λ (r : ℕ). r ≡ checkNumber map store (length image))
+
+abbrev pub LookAtSettled : Type 0
+LookAtSettled = (map store : List ℕ) (bank location : ℕ) → Settles (λ (r : Looked). r ≡ lookOf map store bank location)
+
+abbrev pub LookNumberSettled : Type 0
+LookNumberSettled = (map store : List ℕ) (bank location : ℕ) → Settles (λ (r : ℕ). r ≡ lookNumber map store bank location)
+
+abbrev pub LookSettled : Type 0
+LookSettled = (map store : List ℕ) (bank location : ℕ) → Settles (λ (bytes : List ℕ). bytes ≡ lookBytes map store bank location)

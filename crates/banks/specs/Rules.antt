@@ -1,0 +1,115 @@
+-- The rules 7 to 11 of map, store and reset image, each over everything. Paper 01, "Map, store, reset image" and
+-- "Refusal numbers".
+-- Assumes nothing.
+use Prim.Native.Nat.{ℕ, _+_, _%_}
+use mathlib.Core.Bool.{Bool, true, false, not, _&&_, _||_}
+use mathlib.Core.List.{List, [], _∷_}
+use lib.Dec.{leb, ltb, eqb}
+use lib.ListN.{length, getD}
+use Rattle.laws.specs.Choice.{if_then_else_}
+use Rattle.laws.specs.Lists.{every, some}
+use Rattle.laws.specs.Numbers.{Test, test, firstFailing}
+use Rattle.banks.specs.Map.{recordsOf, writable, locationsEnd, placesEnd}
+use Rattle.banks.specs.declared.record.Record.{Record}
+
+-- 7: records of 8 bytes, 0 to 64 of them
+unfoldable pub sizeHolds : ℕ → Bool
+sizeHolds n = eqb (n % 8) 0 && leb n 512
+
+-- lockable 0/1; only kinds 2 and 4 may be lockable
+abbrev pub lockableHolds : Record → Bool
+lockableHolds r = eqb (r .lockable) 0 || (eqb (r .lockable) 1 && writable r)
+
+-- 8: a record's own fields. Bank at most 199; width 1..8; last location at most 0xFE; kinds 0 to 4; lockable; zero
+abbrev pub fieldsHold : Record → Bool
+fieldsHold r =
+    leb (r .bank) 199 && (leb 1 (r .width) && leb (r .width) 8) && leb (locationsEnd r) (0xFE + 1) && leb (r .kind) 4
+    && lockableHolds r && eqb (r .zero) 0
+
+-- 9: p stands before r: a lower bank, or in the same bank a lower first location and no location shared
+abbrev pub before : Record → Record → Bool
+before p r = ltb (p .bank) (r .bank) || (eqb (p .bank) (r .bank) && leb (locationsEnd p) (r .first))
+
+-- 9: each record stands before the next
+abbrev pub risingFrom : Record → List Record → Bool
+risingFrom p [] = true
+risingFrom p (r ∷ rs) = before p r && risingFrom r rs
+
+abbrev pub rising : List Record → Bool
+rising [] = true
+rising (r ∷ rs) = risingFrom r rs
+
+-- 10: equally long, 0 to 4,096 bytes
+unfoldable pub lengthsHold : ℕ → ℕ → Bool
+lengthsHold stored kept = eqb stored kept && leb stored 4096
+
+-- 10: a place lies inside a store of n bytes
+abbrev pub inside : ℕ → Record → Bool
+inside n r = leb (placesEnd r) n
+
+-- 10: two places share no byte
+abbrev pub clear : Record → Record → Bool
+clear p r = leb (placesEnd p) (r .offset) || leb (placesEnd r) (p .offset)
+
+abbrev pub disjoint : List Record → Bool
+disjoint [] = true
+disjoint (r ∷ rs) = every (clear r) rs && disjoint rs
+
+unfoldable pub placesHold : List Record → ℕ → ℕ → Bool
+placesHold rs stored kept = lengthsHold stored kept && (every (inside stored) rs && disjoint rs)
+
+-- 11: the record of width 1 and kind ROM at 0x00
+abbrev pub isHead : Record → Bool
+isHead r = eqb (r .first) 0x00 && eqb (r .width) 1 && eqb (r .kind) 0
+
+-- 11: the lock byte at 0x02: width 1, kind 2, not lockable
+abbrev pub isLock : Record → Bool
+isLock r = eqb (r .first) 0x02 && eqb (r .width) 1 && eqb (r .kind) 2 && eqb (r .lockable) 0
+
+-- some record of the bank is such a one
+abbrev pub bankHas : (Record → Bool) → List Record → ℕ → Bool
+bankHas such rs bank = some (λ r. eqb (r .bank) bank && such r) rs
+
+-- 11, what the map itself must have, for the bank of one record: each bank present has a record at 0x00; banks 1 to 199
+-- have the lock byte; bank 0 has only kinds 0, 1, 3
+unfoldable pub bankHolds : List Record → Record → Bool
+bankHolds rs r =
+    bankHas isHead rs (r .bank) && (if eqb (r .bank) 0 then not (writable r) else bankHas isLock rs (r .bank))
+
+unfoldable pub banksHold : List Record → Bool
+banksHold rs = every (bankHolds rs) rs
+
+-- 11: a record of the bank ends at or before the location
+abbrev pub endsBy : ℕ → ℕ → Record → Bool
+endsBy bank location r = not (eqb (r .bank) bank) || leb (locationsEnd r) (location + 1)
+
+-- 11, the stored byte at 0x00: 3..254 and not below the bank's highest mapped location
+unfoldable pub headByteHolds : List Record → ℕ → ℕ → Bool
+headByteHolds rs bank byte = (leb 3 byte && leb byte 254) && every (endsBy bank byte) rs
+
+unfoldable pub headHolds : List Record → List ℕ → Record → Bool
+headHolds rs store r = not (isHead r) || headByteHolds rs (r .bank) (getD store (r .offset) 0)
+
+unfoldable pub headBytesHold : List Record → List ℕ → Bool
+headBytesHold rs store = every (headHolds rs store) rs
+
+-- the tests of map, store and reset image, in paper 01's order. Of the image only the length counts
+abbrev pub checkTests : List ℕ → List ℕ → ℕ → List Test
+checkTests map store kept =
+    test 7 (sizeHolds (length map))
+    ∷ test 8 (every fieldsHold (recordsOf map))
+    ∷ test 9 (rising (recordsOf map))
+    ∷ test 10 (placesHold (recordsOf map) (length store) kept)
+    ∷ test 11 (banksHold (recordsOf map) && headBytesHold (recordsOf map) store)
+    ∷ []
+
+unfoldable pub checkNumber : List ℕ → List ℕ → ℕ → ℕ
+checkNumber map store kept = firstFailing (checkTests map store kept)
+
+-- what a lookup rests on: 7, 8 and 9 hold
+unfoldable pub ordered : List ℕ → Bool
+ordered map = sizeHolds (length map) && (every fieldsHold (recordsOf map) && rising (recordsOf map))
+
+-- what a touch of the store rests on: 7 to 10 hold for a store and an image of n bytes
+unfoldable pub placed : List ℕ → ℕ → Bool
+placed map n = ordered map && placesHold (recordsOf map) n n
