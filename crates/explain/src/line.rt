@@ -68,7 +68,7 @@ impl Line {
         self.spaces(n, 8).words(&digits[..n])
     }
 
-    // Two digits.
+    // Two hexadecimal digits.
     pub fn hex(self, byte: u8) -> Line {
         self.byte(digit(byte / 16)).byte(digit(byte % 16))
     }

@@ -172,6 +172,7 @@ fn say_sentence(line: Line, number: u8) -> Line {
         11 => line.words(b"a bank rule of 0x00, 0x02 or bank 0 broken"),
         12 => line.words(b"a rule of a state broken"),
         13 => line.words(b"trace record unfinished or of unknown kind"),
-        _ => line.words(b"no value begins there"),
+        14 => line.words(b"no value begins there"),
+        _ => line.words(b"no such number"),
     }
 }
