@@ -19,13 +19,14 @@ need() {
     return 1
 }
 
-# run_program NAME: runs target/bin/NAME as `rt` does. Programs are for x86-64; on Arm the kit's emulator runs them.
+# run_program NAME [ROOT]: runs target/bin/NAME as `rt` does, in this folder. Programs are for x86-64; on Arm the kit's
+# emulator runs them.
 run_program() {
     rt_file=$(readlink -f "$(command -v rt)")
     built=${RATTLE_HOME:-$(dirname "$(dirname "$rt_file")")}/on/$(uname -m)/toolchain
     emulator=$built/bin/qemu-x86_64
     [ -x "$emulator" ] || emulator=''
-    program=$(pwd)/target/bin/$1
+    program=${2:-$(pwd)}/target/bin/$1
     [ -f "$program" ] || { say "mirto: target/bin/$1 is not built"; return 1; }
     ${emulator:+"$emulator"} "$built/lib/ld-linux-x86-64.so.2" --library-path "$built/lib" "$program"
 }

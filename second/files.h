@@ -1,0 +1,52 @@
+/* The files and records of the trace program. */
+#ifndef SECOND_FILES_H
+#define SECOND_FILES_H
+
+#include <stdio.h>
+
+#include "unit.h"
+
+enum {
+    ADR_BYTES = 5,    /* address, then 32 group bits, high byte first */
+    RECORD_LENGTH = 8 /* records of 8 bytes */
+};
+
+/* Each file has room for one byte over its limit, so that a longer file is
+   seen to be longer. */
+typedef struct Files {
+    uint8_t map[MAP_LIMIT + 1];
+    size_t map_len;
+    uint8_t store[STORE_LIMIT + 1];
+    size_t store_len;
+    uint8_t image[STORE_LIMIT + 1];
+    size_t image_len;
+    uint8_t adr[ADR_BYTES + 1];
+    size_t adr_len;
+} Files;
+
+/* Reads unit.map, unit.sto, unit.rst, unit.adr of a folder. */
+void read_files(const char *folder, Files *files);
+
+/* Start from the files; a wrong length of unit.adr is 6. */
+uint32_t start_from_files(Files *files, Unit *unit);
+
+/* What a record makes of the input. */
+typedef enum RecordKind {
+    FRAME_RECORD,
+    POWER_ON_RECORD,
+    BAD_RECORD, /* unfinished or of unknown kind */
+    NO_RECORD   /* the input has ended */
+} RecordKind;
+
+typedef struct TraceRecord {
+    RecordKind kind;
+    uint32_t clock;
+    uint32_t frame;
+} TraceRecord;
+
+TraceRecord read_record(FILE *input);
+
+/* Hands one record to the unit: number | answered << 8 | answer << 16. */
+uint32_t obey_record(Files *files, Unit *unit, const TraceRecord *record);
+
+#endif

@@ -1,0 +1,1202 @@
+/* Checks the bench sheet, the readings and the rules over the library. */
+#include <stdio.h>
+#include <stdlib.h>
+#include <string.h>
+
+#include "files.h"
+#include "unit.h"
+
+static unsigned passed;
+static unsigned failed;
+
+static void expect(bool holds, const char *what)
+{
+    if (holds) {
+        passed++;
+    } else {
+        failed++;
+        printf("failed: %s\n", what);
+    }
+}
+
+/* A unit with what it was lent. */
+typedef struct Bench {
+    uint8_t map[MAP_LIMIT];
+    size_t map_len;
+    uint8_t store[64];
+    size_t store_len;
+    uint8_t image[64];
+    Unit unit;
+    uint32_t clock;
+} Bench;
+
+/* The map, store and image of the bench sheet. */
+static const uint8_t sheet_map[24] = {2, 0, 1, 0, 0, 0, 0, 0, 2, 2, 1, 2,
+                                      0, 0, 0, 1, 2, 3, 4, 4, 1, 0, 0, 2};
+static const uint8_t sheet_store[6] = {0x06, 0xFF, 0, 0, 0, 0x64};
+static const uint8_t sheet_image[6] = {0x06, 0xFF, 0, 0, 0, 0x32};
+
+/* A map with three banks: bank 0, one of many kinds, one up to 0xFE. */
+static const uint8_t wide_map[] = {
+    0, 0x00, 1, 0, 0, 0, 0, 0,  0, 0x02, 2, 3, 0, 0, 0, 1,
+    2, 0x00, 1, 0, 0, 0, 0, 3,  2, 0x02, 1, 2, 0, 0, 0, 4,
+    2, 0x03, 4, 4, 1, 0, 0, 5,  2, 0x07, 1, 4, 0, 0, 0, 9,
+    2, 0x08, 2, 2, 0, 0, 0, 10, 2, 0x0B, 3, 4, 0, 0, 0, 12,
+    2, 0x10, 2, 1, 0, 0, 0, 15, 9, 0x00, 1, 0, 0, 0, 0, 17,
+    9, 0x02, 1, 2, 0, 0, 0, 18, 9, 0x03, 8, 4, 1, 0, 0, 19,
+    9, 0xFD, 2, 4, 0, 0, 0, 27};
+enum { WIDE_STORE = 29 };
+
+static uint32_t start_bench(Bench *bench, uint8_t address, uint32_t groups)
+{
+    bench->clock = 1000;
+    return second_start(bench->map, bench->map_len, bench->store,
+                        bench->store_len, bench->image, bench->store_len,
+                        address, groups, &bench->unit);
+}
+
+static Bench sheet_bench(void)
+{
+    Bench bench = {0};
+    memcpy(bench.map, sheet_map, sizeof sheet_map);
+    memcpy(bench.store, sheet_store, sizeof sheet_store);
+    memcpy(bench.image, sheet_image, sizeof sheet_image);
+    bench.map_len = sizeof sheet_map;
+    bench.store_len = sizeof sheet_store;
+    (void)start_bench(&bench, 5, 0);
+    return bench;
+}
+
+static Bench wide_bench(void)
+{
+    Bench bench = {0};
+    memcpy(bench.map, wide_map, sizeof wide_map);
+    bench.map_len = sizeof wide_map;
+    bench.store_len = WIDE_STORE;
+    for (size_t i = 0; i < WIDE_STORE; i++) {
+        bench.store[i] = (uint8_t)(0x40 + i);
+        bench.image[i] = (uint8_t)(0x80 + i);
+    }
+    bench.store[0] = 0x03;
+    bench.store[3] = 0x11;
+    bench.store[17] = 0xFE;
+    (void)start_bench(&bench, 5, 0x00010004);
+    return bench;
+}
+
+static uint32_t step_at(Bench *bench, uint32_t frame, uint32_t clock)
+{
+    return second_frame(bench->map, bench->map_len, bench->store,
+                        bench->store_len, bench->image, bench->store_len,
+                        &bench->unit, frame, clock);
+}
+
+/* A frame some time later. */
+static uint32_t step(Bench *bench, uint32_t frame)
+{
+    bench->clock += 10;
+    return step_at(bench, frame, bench->clock);
+}
+
+static void pair(Bench *bench, uint32_t frame)
+{
+    (void)step(bench, frame);
+    (void)step(bench, frame);
+}
+
+static uint32_t power_on(Bench *bench)
+{
+    return second_power_on(bench->map, bench->map_len, bench->store,
+                           bench->store_len, bench->image, bench->store_len,
+                           &bench->unit);
+}
+
+/* number | answered << 8 | answer << 16 */
+static uint32_t answered(uint8_t byte)
+{
+    return 0x100u | (uint32_t)byte << 16;
+}
+
+static bool stores(const Bench *bench, size_t offset, size_t count,
+                   const uint8_t *bytes)
+{
+    return memcmp(bench->store + offset, bytes, count) == 0;
+}
+
+static bool same_state(const Unit *one, const Unit *other)
+{
+    uint8_t one_bytes[STATE_BYTES];
+    uint8_t other_bytes[STATE_BYTES];
+    second_pack(one, one_bytes);
+    second_pack(other, other_bytes);
+    return memcmp(one_bytes, other_bytes, STATE_BYTES) == 0;
+}
+
+/* DTR1 then DTR0, then the ENABLE pair. */
+static void enable_at(Bench *bench, uint8_t bank, uint8_t location)
+{
+    (void)step(bench, 0xC70000u | (uint32_t)bank << 8 | location);
+    pair(bench, 0xFFFE15);
+}
+
+/* ---- the bench sheet ---- */
+
+static void bench_reader(void)
+{
+    expect(second_read(0x0BFE15) == UINT64_C(0x000000050A001500),
+           "P1 ENABLE to short 5");
+    expect(second_read(0xFFFE3C) == UINT64_C(0x000003000A003C00),
+           "P2 broadcast READ");
+    expect(second_read(0xFEE001) == UINT64_C(5) << 56, "P10 refusal 5");
+    expect(second_read(0xFEF1C5) == UINT64_C(0x0007010301050000),
+           "P8 reads back");
+    expect(second_read(0xFEE000) == UINT64_C(0x0007000000000000),
+           "P9 reads back");
+}
+
+static void bench_composer(void)
+{
+    expect(second_compose_event(1, 2, 255, 255, 0, 5, 0) == 0x828805,
+           "P3 scheme 0");
+    expect(second_compose_event(3, 0, 255, 5, 0, 0x155, 1) == 0x0A0D55,
+           "P4 scheme 1");
+    expect(second_compose_event(0, 31, 255, 63, 0, 1023, 2) == 0x7EFFFF,
+           "P5 scheme 2");
+    expect(second_compose_event(4, 0, 255, 255, 0x280, 0, 3) == 0x8E1000,
+           "P6 scheme 3");
+    expect(second_compose_event(0, 0, 31, 255, 0, 1, 4) == 0xFE0001,
+           "P7 scheme 4");
+    expect(second_compose_power(5, 1u << 3) == 0xFEF1C5, "P8 power");
+    expect(second_compose_power(255, 0) == 0xFEE000, "P9 neither");
+}
+
+static const uint32_t p11_frames[9] = {0x0BFE15, 0x0BFE15, 0xC13102,
+                                       0xC13002, 0xC12055, 0xC12000,
+                                       0xC12000, 0xC12001, 0xC1202C};
+
+/* P11's list with the second ENABLE at a given clock; counts what differs. */
+static unsigned run_sheet(Bench *bench, size_t count, uint32_t second_clock,
+                          const uint32_t *results)
+{
+    unsigned unlike = 0;
+    for (size_t i = 0; i < count; i++) {
+        uint32_t clock = i == 0 ? 0 : second_clock;
+        if (step_at(bench, p11_frames[i], clock) != results[i]) {
+            unlike++;
+        }
+    }
+    return unlike;
+}
+
+static void bench_writing(void)
+{
+    static const uint32_t p11_results[9] = {0,          0,          0,
+                                            0,          0x00550100, 0x00000100,
+                                            0x00000100, 0x00010100, 0x002C0100};
+    static const uint32_t nothing[9] = {0};
+    static const uint8_t whole[6] = {0x06, 0x55, 0, 0, 1, 0x2C};
+    static const uint8_t part[6] = {0x06, 0x55, 0, 0, 0, 0x64};
+    Bench bench = sheet_bench();
+    expect(run_sheet(&bench, 9, 100, p11_results) == 0, "P11 outputs");
+    expect(stores(&bench, 0, 6, whole), "P11 store");
+    expect(bench.unit.dtr0 == 7 && bench.unit.dtr1 == 2, "P11 DTRs");
+    bench = sheet_bench();
+    expect(run_sheet(&bench, 8, 100, p11_results) == 0, "P12 outputs");
+    expect(stores(&bench, 0, 6, part), "P12 store");
+    bench = sheet_bench();
+    expect(run_sheet(&bench, 9, 101, nothing) == 0, "101: no answers");
+    expect(stores(&bench, 0, 6, sheet_store), "101: store unchanged");
+    expect(bench.unit.dtr0 == 2 && bench.unit.dtr1 == 2, "101: DTR0 2, DTR1 2");
+    bench = sheet_bench();
+    (void)step_at(&bench, 0x0BFE15, 4294967250u);
+    (void)step_at(&bench, 0x0BFE15, 50);
+    expect(bench.unit.write_enable == 1, "difference 96, a pair");
+}
+
+/* ---- reader, writer, composers ---- */
+
+/* Every frame that reads writes back to itself. */
+static void read_and_write(void)
+{
+    unsigned unlike = 0;
+    for (uint32_t frame = 0; frame < 0x1000000; frame++) {
+        uint64_t word = second_read(frame);
+        uint32_t back = second_write(word);
+        uint32_t wanted = word >> 56 == 0 ? frame : 0x06000000u;
+        if (back != wanted) {
+            unlike++;
+        }
+    }
+    expect(unlike == 0, "every frame that reads writes back to itself");
+    expect(second_read(0x1000000) == UINT64_C(1) << 56, "reader 1");
+    expect(second_read(0xFFFFFFFF) == UINT64_C(1) << 56, "reader 1, largest");
+    expect(second_read(0xE1FE15) == UINT64_C(2) << 56, "reader 2");
+    expect(second_read(0xFB4000) == UINT64_C(2) << 56, "reader 2 before 3");
+    expect(second_read(0x014000) == UINT64_C(3) << 56, "reader 3");
+    expect(second_read(0xC08000) == UINT64_C(4) << 56, "reader 4");
+    expect(second_read(0xFEC000) == UINT64_C(4) << 56, "bit 13 clear: 4");
+    expect(second_read(0xFEE080) == UINT64_C(5) << 56, "blank group: 5");
+}
+
+/* Writer (6): any number in the message beyond its field's width. */
+static void writer_ranges(void)
+{
+    static const uint64_t refused[] = {
+        UINT64_C(0x0000004001000000), /* short 64 */
+        UINT64_C(0x0000012001000000), /* group 32 */
+        UINT64_C(0x0000020101000000), /* unaddressed has no number */
+        UINT64_C(0x0000030101000000), /* broadcast has no number */
+        UINT64_C(0x0000040001000000), /* address kind 4 */
+        UINT64_C(0x0000000000000000), /* reserved target */
+        UINT64_C(0x000000000C000000), /* target kind 12 */
+        UINT64_C(0x0000000001200000), /* instance number 32 */
+        UINT64_C(0x0000000006200000), /* feature at type 32 */
+        UINT64_C(0x000000000A010000), /* device has no number */
+        UINT64_C(0x0000000001000001), /* unused byte */
+        UINT64_C(0x0001100000000000), /* special 16 */
+        UINT64_C(0x0001000000000100), /* unused byte of a special */
+        UINT64_C(0x0002200000000000), /* type 32 */
+        UINT64_C(0x0003400000000000), /* short 64 */
+        UINT64_C(0x0004002000000000), /* number 32 */
+        UINT64_C(0x0005200000000000), /* device group 32 */
+        UINT64_C(0x0006200000000000), /* instance group 32 */
+        UINT64_C(0x0002000004000000), /* information 1024 */
+        UINT64_C(0x0002000000000001), /* unused byte of an event */
+        UINT64_C(0x0007020000000000), /* present is 0/1 */
+        UINT64_C(0x0007000100000000), /* absent group is 0 */
+        UINT64_C(0x0007012000000000), /* group 32 */
+        UINT64_C(0x0007000001400000), /* short 64 */
+        UINT64_C(0x0007000000010000), /* absent short address is 0 */
+        UINT64_C(0x0007000000000001), /* unused byte of a power cycle */
+        UINT64_C(0x0008000000000000), /* kind 8 */
+        UINT64_C(0x0100000001000000), /* a refusal */
+    };
+    for (size_t i = 0; i < sizeof refused / sizeof refused[0]; i++) {
+        char what[40];
+        (void)snprintf(what, sizeof what, "writer refusal %zu", i);
+        expect(second_write(refused[i]) == 0x06000000u, what);
+    }
+}
+
+/* Composer ranges (6): every field tested, also those the scheme won't use. */
+static void composer_ranges(void)
+{
+    const uint32_t six = 0x06000000u;
+    expect(second_compose_event(32, 0, 0, 0, 0, 0, 2) == six, "type 32");
+    expect(second_compose_event(0, 32, 0, 0, 0, 0, 1) == six, "number 32");
+    expect(second_compose_event(0, 0, 32, 0, 0, 0, 0) == six, "primary 32");
+    expect(second_compose_event(0, 0, 254, 0, 0, 0, 0) == six, "primary 254");
+    expect(second_compose_event(0, 0, 0, 64, 0, 0, 0) == six, "short 64");
+    expect(second_compose_event(0, 0, 0, 254, 0, 0, 0) == six, "short 254");
+    expect(second_compose_event(0, 0, 0, 0, 0, 1024, 0) == six, "info 1024");
+    expect(second_compose_event(0, 0, 0, 0, 0, 0, 5) == six, "scheme 5");
+    expect(second_compose_event(0, 0, 0, 0, 0, 0, 254) == six, "scheme 254");
+    expect(second_compose_power(64, 0) == six, "power, short 64");
+    expect(second_compose_power(256, 0) == six, "power, short 256");
+    expect(second_compose_event(1, 2, 0, 0, 1, 5, 255) == 0x828805,
+           "as shipped is 0");
+    expect(second_compose_event(1, 2, 0, 255, 1, 5, 1) == 0x828805,
+           "scheme 1 falls back");
+    expect(second_compose_event(1, 2, 0, 255, 1, 5, 2) == 0x828805,
+           "scheme 2 falls back");
+    expect(second_compose_event(1, 2, 0, 0, 0, 5, 3) == 0x828805,
+           "scheme 3 falls back");
+    expect(second_compose_event(1, 2, 255, 0, 1, 5, 4) == 0x828805,
+           "scheme 4 falls back");
+    expect(second_compose_power(63, 1u << 31) == 0xFEFFFF, "highest power");
+}
+
+/* ---- map, store, reset image ---- */
+
+static uint32_t check(const Bench *bench)
+{
+    return second_check(bench->map, bench->map_len, bench->store,
+                        bench->store_len, bench->store_len);
+}
+
+/* The bench with one byte of its map changed. */
+static uint32_t check_map_byte(size_t index, uint8_t byte)
+{
+    Bench bench = wide_bench();
+    bench.map[index] = byte;
+    return check(&bench);
+}
+
+/* Number 8: a record's own fields. */
+static void check_fields(void)
+{
+    expect(check_map_byte(9 * 8, 200) == RECORD_FIELDS, "bank 200");
+    expect(check_map_byte(4 * 8 + 2, 0) == RECORD_FIELDS, "width 0");
+    expect(check_map_byte(11 * 8 + 2, 9) == RECORD_FIELDS, "width 9");
+    expect(check_map_byte(12 * 8 + 2, 3) == RECORD_FIELDS, "last 0xFF");
+    expect(check_map_byte(4 * 8 + 3, 5) == RECORD_FIELDS, "kind 5");
+    expect(check_map_byte(4 * 8 + 4, 2) == RECORD_FIELDS, "lockable 2");
+    expect(check_map_byte(8 * 8 + 4, 1) == RECORD_FIELDS, "lockable RAM-RO");
+    expect(check_map_byte(1 * 8 + 4, 1) == RECORD_FIELDS, "lockable NVM-RO");
+    expect(check_map_byte(0 * 8 + 4, 1) == RECORD_FIELDS, "lockable ROM");
+    expect(check_map_byte(4 * 8 + 5, 1) == RECORD_FIELDS, "byte 5 not zero");
+    expect(check_map_byte(6 * 8 + 4, 1) == 0, "lockable RAM-RW");
+}
+
+/* 9 and 10: overlap of locations is 9; overlap of store places is 10. */
+static void check_places(void)
+{
+    Bench bench = wide_bench();
+    expect(check_map_byte(4 * 8 + 2, 5) == RECORD_ORDER, "overlap by one");
+    expect(check_map_byte(5 * 8 + 1, 3) == RECORD_ORDER, "equal firsts");
+    expect(check_map_byte(9 * 8, 1) == RECORD_ORDER, "bank falls");
+    expect(check_map_byte(12 * 8 + 7, 26) == STORE_PLACES, "shared by one");
+    expect(check_map_byte(12 * 8 + 7, 28) == STORE_PLACES, "outside by one");
+    expect(check_map_byte(12 * 8 + 6, 0xFF) == STORE_PLACES, "far outside");
+    expect(second_check(bench.map, bench.map_len, bench.store, WIDE_STORE,
+                        WIDE_STORE + 1)
+               == STORE_PLACES,
+           "lengths differ");
+}
+
+/* 7: map not a multiple of 8 bytes, or over 512; 10: over 4,096. */
+static void check_lengths(void)
+{
+    static const uint8_t long_map[520] = {0};
+    static const uint8_t long_store[4097] = {0};
+    expect(second_check(long_map, 513, NULL, 0, 0) == MAP_LENGTH, "513");
+    expect(second_check(long_map, 520, NULL, 0, 0) == MAP_LENGTH, "520");
+    expect(second_check(long_map, 7, NULL, 0, 0) == MAP_LENGTH, "7");
+    expect(second_check(NULL, 0, NULL, 0, 0) == 0, "nothing at all");
+    expect(second_check(NULL, 0, long_store, 4096, 4096) == 0, "4,096");
+    expect(second_check(NULL, 0, long_store, 4097, 4097) == STORE_PLACES,
+           "4,097");
+}
+
+/* Number 11: the stored byte at 0x00, the record there, the lock record. */
+static void check_bank_rules(void)
+{
+    Bench bench = wide_bench();
+    expect(check_map_byte(0 * 8 + 3, 1) == BANK_RULE, "0x00 not ROM");
+    expect(check_map_byte(2 * 8 + 1, 1) == BANK_RULE, "no record at 0x00");
+    expect(check_map_byte(3 * 8 + 3, 4) == BANK_RULE, "lock byte NVM-RW");
+    expect(check_map_byte(3 * 8 + 4, 1) == BANK_RULE, "lock byte lockable");
+    expect(check_map_byte(3 * 8 + 1, 1) == BANK_RULE, "no lock byte");
+    expect(check_map_byte(1 * 8 + 3, 4) == BANK_RULE, "bank 0 NVM-RW");
+    expect(check_map_byte(1 * 8 + 3, 2) == BANK_RULE, "bank 0 RAM-RW");
+    expect(check_map_byte(1 * 8 + 3, 1) == 0, "bank 0 RAM-RO");
+    bench.store[0] = 2;
+    expect(check(&bench) == BANK_RULE, "0x00 holds 2");
+    bench.store[0] = 254;
+    expect(check(&bench) == 0, "0x00 holds 254");
+    bench.store[0] = 255;
+    expect(check(&bench) == BANK_RULE, "0x00 holds 255");
+    bench.store[0] = 3;
+    bench.store[3] = 0x10;
+    expect(check(&bench) == BANK_RULE, "0x00 below the highest location");
+    bench.store[3] = 0x11;
+    bench.image[3] = 0;
+    expect(start_bench(&bench, 5, 0) == 0, "the image's byte is not tested");
+}
+
+/* Each over everything: 8 at the last record before 9 at the first, and so
+   on. */
+static void check_order(void)
+{
+    Bench bench = wide_bench();
+    bench.store[0] = 2;
+    expect(check(&bench) == BANK_RULE, "11 alone");
+    bench.map[1 * 8 + 7] = 0;
+    expect(check(&bench) == STORE_PLACES, "10 before 11");
+    bench.map[5 * 8 + 1] = 3;
+    expect(check(&bench) == RECORD_ORDER, "9 before 10");
+    bench.map[12 * 8 + 3] = 9;
+    expect(check(&bench) == RECORD_FIELDS, "8 before 9");
+    bench.map_len--;
+    expect(check(&bench) == MAP_LENGTH, "7 before 8");
+}
+
+static uint32_t look(const Bench *bench, uint8_t bank, uint8_t location)
+{
+    return second_look(bench->map, bench->map_len, bench->store,
+                       bench->store_len, bank, location);
+}
+
+/* A place inside a value but not at its first location is 14. */
+static void look_calls(void)
+{
+    Bench bench = wide_bench();
+    expect(look(&bench, 2, 3) == (4u << 8 | 5u << 16), "look at a value");
+    expect(look(&bench, 9, 0xFD) == (2u << 8 | 27u << 16), "look at the last");
+    expect(look(&bench, 2, 4) == NO_VALUE, "look inside a value");
+    expect(look(&bench, 2, 10) == NO_VALUE, "look at a hole");
+    expect(look(&bench, 200, 0) == NO_VALUE, "look at bank 200");
+    bench.store[0] = 0;
+    expect(look(&bench, 2, 4) == BANK_RULE, "look tests 11 before 14");
+}
+
+/* ---- state and clock ---- */
+
+static void start_calls(void)
+{
+    static const Unit zeros = {0};
+    Bench bench = wide_bench();
+    uint8_t before[64];
+    expect(bench.store[4] == 0xFF && bench.store[18] == 0xFF,
+           "start: lock bytes 0xFF");
+    expect(bench.store[10] == 0x8A && bench.store[11] == 0x8B,
+           "start: RAM-RW from the reset image");
+    expect(bench.store[15] == 0x4F && bench.store[9] == 0x49,
+           "start: other kinds stay");
+    memcpy(before, bench.store, sizeof before);
+    before[4] = bench.store[4] = 0x55;
+    expect(start_bench(&bench, 64, 7) == FIELD_OUT_OF_RANGE, "start, 64: 6");
+    expect(stores(&bench, 0, sizeof before, before), "refused start's store");
+    expect(same_state(&bench.unit, &zeros),
+           "a refused start's state is all zeros");
+    expect(start_bench(&bench, 254, 7) == FIELD_OUT_OF_RANGE, "start, 254: 6");
+    expect(start_bench(&bench, 255, 7) == 0, "start without an address");
+    bench.store[0] = 0;
+    expect(start_bench(&bench, 64, 7) == BANK_RULE, "start: 11 before 6");
+}
+
+static void power_on_calls(void)
+{
+    Bench bench = wide_bench();
+    enable_at(&bench, 2, 2);
+    (void)step(&bench, 0xC12055);
+    (void)step(&bench, 0xC50811);
+    (void)step(&bench, 0xC50922);
+    (void)step(&bench, 0xC50733);
+    (void)step(&bench, 0xC50344);
+    expect(bench.unit.staged == 1, "one byte staged");
+    expect(power_on(&bench) == 0, "a later power-on");
+    expect(bench.unit.staged == 0 && bench.unit.write_enable == 0
+               && bench.unit.dtr0 == 0 && bench.unit.dtr1 == 0,
+           "power-on: nothing enabled or staged, DTRs 0");
+    expect(bench.unit.address == 5 && bench.unit.groups == 0x00010004,
+           "power-on keeps address and groups");
+    expect(bench.store[4] == 0xFF && bench.store[10] == 0x8A,
+           "power-on: lock byte 0xFF, RAM-RW from the reset image");
+    expect(bench.store[9] == 0x33, "power-on: NVM-RW stays");
+}
+
+/* A state with one byte of its 96 changed gives 12 and stays. */
+static bool breaks_a_rule(const Bench *bench, size_t index, uint8_t byte)
+{
+    Bench copy = *bench;
+    uint8_t state[STATE_BYTES];
+    uint8_t kept[STATE_BYTES];
+    second_pack(&bench->unit, state);
+    state[index] = byte;
+    memcpy(kept, state, sizeof kept);
+    uint32_t framed = second_frame_bytes(
+        copy.map, copy.map_len, copy.store, copy.store_len, copy.image,
+        copy.store_len, state, 0xFFFFFFFF, 0);
+    uint32_t powered = second_power_on_bytes(
+        copy.map, copy.map_len, copy.store, copy.store_len, copy.image,
+        copy.store_len, state);
+    return framed == STATE_RULE && powered == STATE_RULE
+           && memcmp(state, kept, sizeof kept) == 0
+           && memcmp(copy.store, bench->store, sizeof copy.store) == 0;
+}
+
+static void idle_state_rules(void)
+{
+    Bench bench = wide_bench();
+    expect(breaks_a_rule(&bench, 0, 64), "address 64");
+    expect(breaks_a_rule(&bench, 8, 2), "waiting flag 2");
+    expect(breaks_a_rule(&bench, 8, 1), "waiting for frame 0");
+    expect(breaks_a_rule(&bench, 12, 1), "frame, none waiting");
+    expect(breaks_a_rule(&bench, 16, 1), "clock, none waiting");
+    expect(breaks_a_rule(&bench, 17, 2), "write-enable flag 2");
+    expect(breaks_a_rule(&bench, 18, 1), "staged while closed");
+    expect(breaks_a_rule(&bench, 19, 2), "staged bank, none staged");
+    expect(breaks_a_rule(&bench, 20, 3), "staged first, none staged");
+    expect(breaks_a_rule(&bench, 28, 3), "staged byte, none staged");
+    expect(breaks_a_rule(&bench, 29, 2), "latched flag 2");
+    expect(breaks_a_rule(&bench, 29, 1), "latched value of width 1");
+    expect(breaks_a_rule(&bench, 30, 2), "latched bank, none latched");
+    expect(breaks_a_rule(&bench, 39, 2), "latched byte, none latched");
+    expect(breaks_a_rule(&bench, 40, 1), "byte 40");
+    expect(breaks_a_rule(&bench, 95, 1), "byte 95");
+}
+
+/* A waiting frame is a pair command for the unit: listed, and matched against
+   the state's own address and groups. */
+static void waiting_state_rules(void)
+{
+    Bench bench = wide_bench();
+    (void)step(&bench, 0x0BFE15);
+    expect(breaks_a_rule(&bench, 0, 6), "waiting for another address");
+    expect(breaks_a_rule(&bench, 17, 1), "waiting while enabled");
+    expect(breaks_a_rule(&bench, 12, 0x33), "waiting query");
+    expect(breaks_a_rule(&bench, 12, 0x10), "waiting unlisted command");
+    expect(breaks_a_rule(&bench, 11, 0xFF), "waiting instance command");
+    expect(breaks_a_rule(&bench, 9, 1), "waiting frame too large");
+    expect(breaks_a_rule(&bench, 10, 0x0A), "waiting event");
+    bench = wide_bench();
+    (void)step(&bench, 0x85FE15);
+    expect(bench.unit.waiting == 1, "a group's command waits");
+    expect(breaks_a_rule(&bench, 4, 0), "waiting for another group");
+}
+
+static void staged_state_rules(void)
+{
+    Bench bench = wide_bench();
+    enable_at(&bench, 2, 2);
+    (void)step(&bench, 0xC12055);
+    (void)step(&bench, 0xC12011);
+    (void)step(&bench, 0xC12022);
+    expect(bench.unit.staged == 2, "two bytes staged");
+    expect(breaks_a_rule(&bench, 17, 0), "staged while closed");
+    expect(breaks_a_rule(&bench, 18, 4), "all of the value staged");
+    expect(breaks_a_rule(&bench, 18, 255), "255 staged");
+    expect(breaks_a_rule(&bench, 18, 1), "a byte past the staged ones");
+    expect(breaks_a_rule(&bench, 19, 3), "staged bank not mapped");
+    expect(breaks_a_rule(&bench, 20, 4), "staged inside a value");
+    expect(breaks_a_rule(&bench, 20, 7), "staged value of width 1");
+    expect(breaks_a_rule(&bench, 20, 16), "staged value not writable");
+    bench.store[4] = 0x54;
+    expect(step(&bench, 0xC12033) == STATE_RULE, "staged while locked");
+    bench.store[4] = 0x55;
+    expect(step(&bench, 0xC12033) == answered(0x33), "staged while unlocked");
+}
+
+static void latched_state_rules(void)
+{
+    Bench bench = wide_bench();
+    (void)step(&bench, 0xC7020B);
+    (void)step(&bench, 0xFFFE3C);
+    expect(bench.unit.latched == 1, "a value is latched");
+    expect(breaks_a_rule(&bench, 31, 12), "latched inside a value");
+    expect(breaks_a_rule(&bench, 31, 7), "latched value of width 1");
+    expect(breaks_a_rule(&bench, 30, 3), "latched bank not mapped");
+    expect(breaks_a_rule(&bench, 35, 1), "a byte past the width");
+    expect(breaks_a_rule(&bench, 29, 0), "latched bytes, none latched");
+    bench.unit.latched_bytes[1] ^= 0xFF;
+    expect(step(&bench, 0xFFFE3C) == answered((uint8_t)~0x4D),
+           "latched bytes, whatever they are");
+}
+
+static void order_of_step(void)
+{
+    Bench bench = wide_bench();
+    Unit before;
+    expect(step(&bench, 0x1000000) == FRAME_TOO_LARGE, "step: 1");
+    bench.unit.address = 64;
+    expect(step(&bench, 0x1000000) == STATE_RULE, "step: 12 before 1");
+    bench.store[0] = 0;
+    before = bench.unit;
+    expect(step(&bench, 0x1000000) == BANK_RULE, "step: 11 before 12");
+    expect(power_on(&bench) == BANK_RULE, "power-on: 11 before 12");
+    expect(same_state(&before, &bench.unit),
+           "a refused call's state stays");
+}
+
+static void packed_states(void)
+{
+    Bench bench = wide_bench();
+    uint8_t state[STATE_BYTES];
+    uint8_t wanted[STATE_BYTES] = {5, 0, 1, 0, 4, 3, 2, 7, 0};
+    uint8_t again[STATE_BYTES];
+    Unit unit;
+    wanted[17] = 1;
+    wanted[18] = 1;
+    wanted[19] = 2;
+    wanted[20] = 11;
+    wanted[21] = 0xEE;
+    wanted[5] = 12;
+    enable_at(&bench, 2, 11);
+    (void)step(&bench, 0xC13207);
+    (void)step(&bench, 0xC120EE);
+    second_pack(&bench.unit, state);
+    expect(memcmp(state, wanted, sizeof state) == 0, "a state as bytes");
+    expect(second_unpack(state, &unit), "a state unpacks");
+    second_pack(&unit, again);
+    expect(memcmp(state, again, sizeof state) == 0, "bytes come back");
+    (void)step_at(&bench, 0x0BFE15, 0x01020304);
+    second_pack(&bench.unit, state);
+    expect(memcmp(state + 8, "\x01\x00\x0B\xFE\x15\x01\x02\x03\x04\x00", 10)
+               == 0,
+           "a waiting frame as bytes");
+}
+
+/* ---- pairs ---- */
+
+static void pairs_from_the_left(void)
+{
+    Bench bench = wide_bench();
+    pair(&bench, 0x0BFE15);
+    expect(bench.unit.write_enable == 1, "the ENABLE pair opens");
+    (void)step(&bench, 0x0BFE15);
+    expect(bench.unit.write_enable == 0 && bench.unit.waiting == 1,
+           "third ENABLE waits and closes");
+    (void)step(&bench, 0x0BFE15);
+    expect(bench.unit.write_enable == 1 && bench.unit.waiting == 0,
+           "fourth ENABLE opens");
+    (void)step_at(&bench, 0x0BFE15, 5000);
+    (void)step_at(&bench, 0x0BFE15, 5101);
+    expect(bench.unit.write_enable == 0 && bench.unit.waiting_clock == 5101,
+           "repeat after more than 100 waits with its own clock");
+    (void)step_at(&bench, 0x0BFE15, 5201);
+    expect(bench.unit.write_enable == 1, "and pairs with the next");
+    bench = wide_bench();
+    (void)step_at(&bench, 0x0BFE15, 200);
+    (void)step_at(&bench, 0x0BFE15, 199);
+    expect(bench.unit.write_enable == 0, "a clock going back is no pair");
+}
+
+/* A frame between two halves; true if they still are a pair. */
+static bool pair_around(uint32_t between)
+{
+    Bench bench = wide_bench();
+    (void)step(&bench, 0x0BFE15);
+    (void)step(&bench, between);
+    (void)step(&bench, 0x0BFE15);
+    return bench.unit.write_enable == 1;
+}
+
+static void frames_between_halves(void)
+{
+    Bench bench = wide_bench();
+    expect(pair_around(0x1000000), "a refused frame between two halves");
+    expect(!pair_around(0x828805), "an event between two halves");
+    expect(!pair_around(0xFEE000), "a power event between two halves");
+    expect(!pair_around(0xFEE001), "a malformed power event between");
+    expect(!pair_around(0xE1FE15), "a reserved address between");
+    expect(!pair_around(0x0B4015), "a reserved instance between");
+    expect(!pair_around(0xC08000), "a reserved event between");
+    expect(!pair_around(0x0DFE15), "a foreign command between");
+    expect(!pair_around(0xFFFE15), "another ENABLE between");
+    expect(!pair_around(0x0BFE36), "a query between");
+    expect(!pair_around(0xC13000), "DTR0 between");
+    expect(!pair_around(0x0BFE10), "an unlisted command between");
+    (void)step(&bench, 0x0BFE15);
+    (void)power_on(&bench);
+    (void)step(&bench, 0x0BFE15);
+    expect(bench.unit.write_enable == 0, "a power-on between two halves");
+}
+
+/* ---- commands obeyed ---- */
+
+/* A frame while enabled and staged; true if staging is still there. */
+static bool staging_after(uint32_t frame)
+{
+    Bench bench = wide_bench();
+    enable_at(&bench, 2, 11);
+    (void)step(&bench, 0xC12001);
+    (void)step(&bench, frame);
+    return bench.unit.write_enable == 1 && bench.unit.staged == 1;
+}
+
+static void what_keeps_write_enable(void)
+{
+    static const uint32_t keep[] = {
+        0xC13003, 0xC13102, 0xC13200, 0xC70200, 0xC90002, 0x0BFE36, 0x0BFE37,
+        0x0BFE38, 0x828805, 0xE1FE15, 0x0DFE15, 0x0BFE10, 0xC13300, 0xCB0000,
+        0x0BFF15, 0x0B0015, 0xFDFE15, 0xFEE001};
+    static const uint32_t close[] = {
+        0x0BFE11, 0x0BFE14, 0x0BFE15, 0x0BFE19, 0x0BFE1A, 0x0BFE1B, 0x0BFE1C,
+        0x0BFE33, 0x0BFE3C, 0x0BFE41, 0x0BFE42, 0x0BFE43, 0x0BFE44, 0xFFFE33,
+        0x85FE33};
+    for (size_t i = 0; i < sizeof keep / sizeof keep[0]; i++) {
+        char what[40];
+        (void)snprintf(what, sizeof what, "%06X keeps", (unsigned)keep[i]);
+        expect(staging_after(keep[i]), what);
+    }
+    for (size_t i = 0; i < sizeof close / sizeof close[0]; i++) {
+        char what[40];
+        (void)snprintf(what, sizeof what, "%06X closes", (unsigned)close[i]);
+        expect(!staging_after(close[i]), what);
+    }
+}
+
+static void writes_not_executed(void)
+{
+    Bench bench = wide_bench();
+    (void)step(&bench, 0xC70207);
+    expect(step(&bench, 0xC12011) == 0 && bench.unit.dtr0 == 7,
+           "write while not enabled: DTR0 stays");
+    expect(step(&bench, 0xC50811) == 0 && bench.unit.dtr0 == 7,
+           "DIRECT WRITE while not enabled: DTR0 stays");
+    enable_at(&bench, 2, 11);
+    (void)step(&bench, 0xC12001);
+    (void)step(&bench, 0xC13105);
+    expect(step(&bench, 0xC12002) == 0 && bench.unit.dtr0 == 12,
+           "write in an unmapped bank: DTR0 stays");
+    expect(step(&bench, 0xC50002) == 0 && bench.unit.dtr0 == 12,
+           "DIRECT WRITE in an unmapped bank: DTR0 stays");
+    expect(bench.unit.staged == 1, "and staging stays");
+    (void)step(&bench, 0xC13102);
+    (void)step(&bench, 0xC12002);
+    expect(step(&bench, 0xC12003) == answered(3)
+               && stores(&bench, 12, 3, (const uint8_t *)"\1\2\3"),
+           "and the writing goes on");
+}
+
+/* Executed write at a place that takes no byte. */
+static void untaken_write(uint8_t location, const char *what)
+{
+    Bench bench = wide_bench();
+    Bench before;
+    enable_at(&bench, 2, 11);
+    (void)step(&bench, 0xC12001);
+    (void)step(&bench, 0xC13000u | location);
+    before = bench;
+    expect(step(&bench, 0xC12099) == 0 && bench.unit.staged == 0
+               && bench.unit.dtr0 == (location == 0xFF ? 0xFF : location + 1)
+               && stores(&bench, 0, sizeof bench.store, before.store),
+           what);
+}
+
+static void writes_not_taken(void)
+{
+    untaken_write(0x0A, "write at an unmapped location");
+    untaken_write(0x00, "write at a read-only location");
+    untaken_write(0x10, "write at a RAM-RO value");
+    untaken_write(0x03, "write at a locked value");
+    untaken_write(0x09, "middle byte without staging");
+    untaken_write(0x0D, "a byte after the next one");
+    untaken_write(0xFF, "write at 0xFF leaves DTR0");
+}
+
+static void staging_again(void)
+{
+    Bench bench = wide_bench();
+    enable_at(&bench, 2, 11);
+    (void)step(&bench, 0xC12001);
+    (void)step(&bench, 0xC12002);
+    expect(step(&bench, 0xC50B05) == answered(5) && bench.unit.staged == 1
+               && bench.unit.staged_bytes[0] == 5
+               && bench.unit.staged_bytes[1] == 0,
+           "first byte again: begun anew");
+    (void)step(&bench, 0xC12006);
+    expect(stores(&bench, 12, 3, (const uint8_t *)"\x4C\x4D\x4E"),
+           "no byte is stored before the last");
+    expect(step(&bench, 0xC12107) == 0, "the no-reply form has no answer");
+    expect(stores(&bench, 12, 3, (const uint8_t *)"\5\6\7"),
+           "a last byte puts the whole value in the store");
+    expect(step(&bench, 0xC50708) == answered(8) && bench.store[9] == 8,
+           "values of width 1 store at once");
+    (void)step(&bench, 0xC50B01);
+    (void)step(&bench, 0xC50709);
+    expect(bench.unit.staged == 0, "another executed write drops staging");
+}
+
+/* The lock byte where the value is lockable, at each byte. */
+static void locks(void)
+{
+    Bench bench = wide_bench();
+    enable_at(&bench, 2, 2);
+    expect(step(&bench, 0xC12054) == answered(0x54), "the lock byte is taken");
+    expect(step(&bench, 0xC12001) == 0, "0x54 does not unlock");
+    (void)step(&bench, 0xC50255);
+    (void)step(&bench, 0xC12001);
+    (void)step(&bench, 0xC12002);
+    (void)step(&bench, 0xC50200);
+    expect(step(&bench, 0xC50503) == 0 && step(&bench, 0xC12004) == 0,
+           "locking in between ends the writing");
+    (void)step(&bench, 0xC50255);
+    expect(step(&bench, 0xC50604) == 0, "unlocking before the last byte only");
+    expect(stores(&bench, 5, 4, (const uint8_t *)"\x45\x46\x47\x48"),
+           "the value stays");
+    (void)step(&bench, 0xC13109);
+    expect(step(&bench, 0xC50301) == 0, "each bank has its own lock byte");
+}
+
+/* The same location of another bank is another value. */
+static void banks_apart(void)
+{
+    Bench bench = wide_bench();
+    enable_at(&bench, 9, 2);
+    (void)step(&bench, 0xC12055);
+    (void)step(&bench, 0xC13102);
+    (void)step(&bench, 0xC50255);
+    (void)step(&bench, 0xC12001);
+    expect(bench.unit.staged == 1, "a byte of bank 2 is staged");
+    (void)step(&bench, 0xC13109);
+    expect(step(&bench, 0xC12002) == 0 && bench.unit.staged == 0,
+           "the next byte in bank 9 is not the next one staged");
+    (void)step(&bench, 0xC70203);
+    (void)step(&bench, 0xFFFE3C);
+    (void)step(&bench, 0xC13109);
+    expect(step(&bench, 0xFFFE3C) == answered(0x54),
+           "a later byte in bank 9 is not from bank 2's latch");
+    (void)step(&bench, 0xC13102);
+    expect(step(&bench, 0xFFFE3C) == answered(0x47) && bench.unit.latched == 1,
+           "and bank 2's latch is still there");
+    (void)power_on(&bench);
+    expect(bench.unit.latched == 0, "power-on: nothing latched");
+}
+
+/* A value of each width 1..8, whole and one byte short. */
+static void every_width(void)
+{
+    for (uint8_t width = 1; width <= 8; width++) {
+        Bench bench = sheet_bench();
+        char what[40];
+        bench.map[18] = width;
+        bench.store_len = 10;
+        bench.store[0] = 10;
+        (void)start_bench(&bench, 5, 0);
+        enable_at(&bench, 2, 2);
+        (void)step(&bench, 0xC12055);
+        for (uint8_t i = 0; i + 1 < width; i++) {
+            (void)step(&bench, 0xC120A0u + i);
+        }
+        (void)snprintf(what, sizeof what, "width %u, one short", width);
+        expect(width == 1 || bench.store[2] == 0, what);
+        (void)step(&bench, 0xC1209Fu + width);
+        (void)snprintf(what, sizeof what, "width %u, whole", width);
+        expect(stores(&bench, 2, width,
+                      (const uint8_t *)"\xA0\xA1\xA2\xA3\xA4\xA5\xA6\xA7"),
+               what);
+    }
+}
+
+static void reads(void)
+{
+    Bench bench = wide_bench();
+    (void)step(&bench, 0xC70305);
+    expect(step(&bench, 0xFFFE3C) == 0 && bench.unit.dtr0 == 5,
+           "read in an unmapped bank: DTR0 stays");
+    (void)step(&bench, 0xC702FF);
+    expect(step(&bench, 0xFFFE3C) == 0 && bench.unit.dtr0 == 0xFF,
+           "read at 0xFF leaves DTR0");
+    (void)step(&bench, 0xC7020A);
+    expect(step(&bench, 0xFFFE3C) == 0 && bench.unit.dtr0 == 11,
+           "read at an unmapped location: DTR0 rises");
+    expect(step(&bench, 0xFFFE3C) == answered(0x4C), "a first byte");
+    bench.store[13] = 0xEE;
+    expect(step(&bench, 0xFFFE3C) == answered(0x4D), "from the latch");
+    (void)step(&bench, 0xC13009);
+    expect(step(&bench, 0xFFFE3C) == answered(0x8B), "a later byte elsewhere");
+    (void)step(&bench, 0xC1300E);
+    (void)step(&bench, 0xFFFE3C);
+    (void)step(&bench, 0xC1300C);
+    expect(step(&bench, 0xFFFE3C) == answered(0x4D), "leaves the latch");
+    (void)step(&bench, 0xC13007);
+    expect(step(&bench, 0xFFFE3C) == answered(0x49), "a single byte");
+    expect(bench.unit.latched == 0, "ends the latch");
+    (void)step(&bench, 0xC1300C);
+    expect(step(&bench, 0xFFFE3C) == answered(0xEE), "then from the store");
+}
+
+/* Writes and resets don't touch the latch. */
+static void latch_and_writes(void)
+{
+    Bench bench = wide_bench();
+    (void)step(&bench, 0xC7020B);
+    (void)step(&bench, 0xFFFE3C);
+    enable_at(&bench, 2, 2);
+    (void)step(&bench, 0xC12055);
+    (void)step(&bench, 0xC50B01);
+    (void)step(&bench, 0xC12002);
+    (void)step(&bench, 0xC12003);
+    (void)step(&bench, 0xC1300C);
+    expect(step(&bench, 0xFFFE3C) == answered(0x4D), "a write leaves it");
+    (void)step(&bench, 0xC13002);
+    pair(&bench, 0xFFFE11);
+    expect(bench.store[12] == 0x8C && bench.store[4] == 0xFF, "a reset acts");
+    (void)step(&bench, 0xC1300D);
+    expect(step(&bench, 0xFFFE3C) == answered(0x4E), "and leaves it");
+    expect(bench.unit.latched == 1, "it stays after its last byte");
+}
+
+/* Unlocks banks 2 and 9 as told, then RESET MEMORY BANK with DTR0. */
+static Bench reset_with(bool unlock_2, bool unlock_9, uint8_t dtr0)
+{
+    Bench bench = wide_bench();
+    enable_at(&bench, 2, 7);
+    (void)step(&bench, 0xC12077);
+    (void)step(&bench, unlock_2 ? 0xC50255u : 0xC50256u);
+    (void)step(&bench, 0xC13109);
+    (void)step(&bench, unlock_9 ? 0xC50255u : 0xC50256u);
+    (void)step(&bench, 0xC13000u | dtr0);
+    pair(&bench, 0xFFFE11);
+    return bench;
+}
+
+static void resets(void)
+{
+    Bench bench = reset_with(true, true, 0);
+    expect(bench.store[9] == 0x89 && bench.store[19] == 0x93
+               && bench.store[4] == 0xFF && bench.store[18] == 0xFF,
+           "DTR0=0 means each mapped bank");
+    expect(bench.store[3] == 0x11 && bench.store[15] == 0x4F
+               && bench.store[0] == 0x03 && bench.store[1] == 0x41,
+           "only writable values");
+    bench = reset_with(true, true, 9);
+    expect(bench.store[9] == 0x77 && bench.store[4] == 0x55
+               && bench.store[19] == 0x93 && bench.store[27] == 0x9B,
+           "else bank DTR0");
+    bench = reset_with(false, true, 0);
+    expect(bench.store[9] == 0x77 && bench.store[4] == 0x56
+               && bench.store[19] == 0x93,
+           "only a bank whose lock byte is 0x55");
+    bench = reset_with(true, true, 200);
+    expect(bench.store[9] == 0x77 && bench.store[19] == 0x53,
+           "an unmapped bank");
+}
+
+static void addresses(void)
+{
+    Bench bench = wide_bench();
+    (void)step(&bench, 0xC13040);
+    pair(&bench, 0x0BFE14);
+    expect(bench.unit.address == 5, "SET SHORT ADDRESS 0x40 does nothing");
+    (void)step(&bench, 0xC1303F);
+    pair(&bench, 0x0BFE14);
+    expect(bench.unit.address == 63, "SET SHORT ADDRESS 63");
+    expect(step(&bench, 0x0BFE36) == 0, "the old address is foreign");
+    expect(step(&bench, 0x7FFE36) == answered(63), "the new one is not");
+    expect(step(&bench, 0xFFFE33) == 0, "QUERY MISSING: none");
+    expect(step(&bench, 0xFDFE36) == 0, "unaddressed, address 63");
+    (void)step(&bench, 0xC130FF);
+    pair(&bench, 0x7FFE14);
+    expect(bench.unit.address == 255, "SET SHORT ADDRESS 255");
+    expect(step(&bench, 0xFDFE33) == answered(0xFF), "QUERY MISSING: 0xFF");
+}
+
+static void groups(void)
+{
+    Bench bench = wide_bench();
+    (void)step(&bench, 0xC9A1B2);
+    pair(&bench, 0xFFFE19);
+    expect(bench.unit.groups == 0x0001A1B6, "ADD 0-15: DTR2 high, DTR1 low");
+    pair(&bench, 0xFFFE1A);
+    expect(bench.unit.groups == 0xA1B3A1B6, "ADD 16-31");
+    expect(step(&bench, 0xFFFE41) == answered(0xB6), "low byte first");
+    expect(step(&bench, 0xFFFE42) == answered(0xA1), "groups 8-15");
+    expect(step(&bench, 0xFFFE43) == answered(0xB3), "groups 16-23");
+    expect(step(&bench, 0xFFFE44) == answered(0xA1), "groups 24-31");
+    expect(step(&bench, 0xBFFE37) == answered(0xB2), "a member of group 31");
+    expect(step(&bench, 0xBDFE37) == 0, "no member of group 30");
+    pair(&bench, 0xFFFE1B);
+    expect(bench.unit.groups == 0xA1B30004, "REMOVE 0-15");
+    pair(&bench, 0xFFFE1C);
+    expect(bench.unit.groups == 0x00010004, "REMOVE 16-31");
+    pair(&bench, 0xFFFE1C);
+    expect(bench.unit.groups == 0x00010004, "REMOVE from where it is not");
+}
+
+static void registers(void)
+{
+    Bench bench = wide_bench();
+    (void)step(&bench, 0xC71122);
+    expect(bench.unit.dtr1 == 0x11 && bench.unit.dtr0 == 0x22,
+           "0xC7 DTR1 then DTR0");
+    (void)step(&bench, 0xC93344);
+    expect(bench.unit.dtr2 == 0x33 && bench.unit.dtr1 == 0x44,
+           "0xC9 DTR2 then DTR1");
+    expect(step(&bench, 0x0BFE36) == answered(0x22), "QUERY CONTENT DTR0");
+    expect(step(&bench, 0x0BFE37) == answered(0x44), "QUERY CONTENT DTR1");
+    expect(step(&bench, 0x0BFE38) == answered(0x33), "QUERY CONTENT DTR2");
+    expect(step(&bench, 0x0BFF36) == 0, "an instance command is not obeyed");
+    expect(step(&bench, 0x0BFE34) == 0, "an unlisted one is not obeyed");
+}
+
+/* ---- the trace program's files and records ---- */
+
+static Files sheet_files(void)
+{
+    Files files = {0};
+    memcpy(files.map, sheet_map, sizeof sheet_map);
+    memcpy(files.store, sheet_store, sizeof sheet_store);
+    memcpy(files.image, sheet_image, sizeof sheet_image);
+    files.map_len = sizeof sheet_map;
+    files.store_len = sizeof sheet_store;
+    files.image_len = sizeof sheet_image;
+    files.adr[0] = 5;
+    files.adr[1] = 0x80;
+    files.adr[4] = 1;
+    files.adr_len = ADR_BYTES;
+    return files;
+}
+
+static void trace_files(void)
+{
+    Files files = sheet_files();
+    Unit unit;
+    expect(start_from_files(&files, &unit) == 0 && unit.address == 5
+               && unit.groups == 0x80000001u,
+           "address, then 32 group bits, high byte first");
+    files.adr_len = 4;
+    expect(start_from_files(&files, &unit) == FIELD_OUT_OF_RANGE, "adr of 4");
+    files.adr_len = 6;
+    expect(start_from_files(&files, &unit) == FIELD_OUT_OF_RANGE, "adr of 6");
+    files.store[0] = 5;
+    expect(start_from_files(&files, &unit) == BANK_RULE, "11 before the 6");
+    files.map_len = MAP_LIMIT + 1;
+    expect(start_from_files(&files, &unit) == MAP_LENGTH, "map of 513");
+}
+
+/* The kinds of the records that some bytes are read as. */
+static TraceRecord record_of(const uint8_t *bytes, size_t count)
+{
+    TraceRecord record = {NO_RECORD, 0, 0};
+    FILE *file = tmpfile();
+    if (file != NULL && fwrite(bytes, 1, count, file) == count) {
+        rewind(file);
+        record = read_record(file);
+    }
+    if (file != NULL) {
+        (void)fclose(file);
+    }
+    return record;
+}
+
+static void trace_records(void)
+{
+    static const uint8_t frame[8] = {1, 2, 3, 4, 0, 0x0B, 0xFE, 0x15};
+    static const uint8_t power[8] = {1, 2, 3, 4, 1, 0x0B, 0xFE, 0x15};
+    static const uint8_t other[8] = {1, 2, 3, 4, 2, 0x0B, 0xFE, 0x15};
+    Files files = sheet_files();
+    Unit unit;
+    TraceRecord record = record_of(frame, 8);
+    expect(record.kind == FRAME_RECORD && record.clock == 0x01020304
+               && record.frame == 0x0BFE15,
+           "a frame record");
+    record = record_of(power, 8);
+    (void)start_from_files(&files, &unit);
+    expect(record.kind == POWER_ON_RECORD
+               && obey_record(&files, &unit, &record) == 0,
+           "a power-on record");
+    record = record_of(other, 8);
+    expect(record.kind == BAD_RECORD
+               && obey_record(&files, &unit, &record) == TRACE_RECORD,
+           "a record of unknown kind");
+    expect(record_of(frame, 7).kind == BAD_RECORD, "an unfinished record");
+    expect(record_of(frame, 1).kind == BAD_RECORD, "one byte of a record");
+    expect(record_of(frame, 0).kind == NO_RECORD, "the end of the input");
+}
+
+/* ---- any input ---- */
+
+static uint64_t random_state = 1;
+
+static uint32_t any_number(void)
+{
+    random_state = random_state * UINT64_C(6364136223846793005)
+                   + UINT64_C(1442695040888963407);
+    return (uint32_t)(random_state >> 32);
+}
+
+/* The bytes of a bench in places of exactly their length, so that a read
+   outside is seen; NULL where the length is 0. */
+static uint8_t *exact_copy(const uint8_t *bytes, size_t count)
+{
+    uint8_t *copy = count == 0 ? NULL : malloc(count);
+    if (copy != NULL) {
+        memcpy(copy, bytes, count);
+    }
+    return copy;
+}
+
+/* A bench with a few bytes of map, store, lengths and state changed. */
+static Bench changed_bench(uint8_t state[STATE_BYTES])
+{
+    Bench bench = any_number() % 2 == 0 ? wide_bench() : sheet_bench();
+    second_pack(&bench.unit, state);
+    for (uint32_t i = any_number() % 3; i > 0; i--) {
+        state[any_number() % 40] = (uint8_t)(any_number() % 32);
+    }
+    if (any_number() % 4 == 0) {
+        bench.map[any_number() % bench.map_len] = (uint8_t)any_number();
+    }
+    if (any_number() % 4 == 0) {
+        bench.store[any_number() % bench.store_len] = (uint8_t)any_number();
+    }
+    if (any_number() % 8 == 0) {
+        bench.map_len = any_number() % (bench.map_len + 1);
+    }
+    if (any_number() % 8 == 0) {
+        bench.store_len = any_number() % (bench.store_len + 1);
+    }
+    return bench;
+}
+
+/* What a list of frames is run over. */
+typedef struct Places {
+    uint8_t *map;
+    size_t map_len;
+    uint8_t *store;
+    size_t store_len;
+    uint8_t *image;
+    uint8_t state[STATE_BYTES];
+    bool accepted; /* a step was */
+} Places;
+
+/* One frame: a refusal leaves state and store, and an accepted step leaves a
+   state that is accepted. */
+static bool step_anything(Places *places)
+{
+    uint8_t state[STATE_BYTES];
+    uint8_t store[64] = {0};
+    uint32_t frame = any_number() % 4 == 0 ? any_number() % 0x1000100
+                                           : p11_frames[any_number() % 9];
+    memcpy(state, places->state, sizeof state);
+    for (size_t i = 0; i < places->store_len; i++) {
+        store[i] = places->store[i];
+    }
+    uint32_t result = second_frame_bytes(
+        places->map, places->map_len, places->store, places->store_len,
+        places->image, places->store_len, places->state, frame,
+        any_number() % 400);
+    if ((result & 0xFF) == 0) {
+        places->accepted = true;
+        return true;
+    }
+    bool kept = memcmp(state, places->state, sizeof state) == 0;
+    for (size_t i = 0; i < places->store_len; i++) {
+        kept = kept && store[i] == places->store[i];
+    }
+    return kept && result <= 14
+           && (!places->accepted || result == FRAME_TOO_LARGE);
+}
+
+static bool run_any_list(void)
+{
+    Places places = {0};
+    Bench bench = changed_bench(places.state);
+    places.map = exact_copy(bench.map, bench.map_len);
+    places.map_len = bench.map_len;
+    places.store = exact_copy(bench.store, bench.store_len);
+    places.store_len = bench.store_len;
+    places.image = exact_copy(bench.image, bench.store_len);
+    bool holds = true;
+    for (unsigned i = 0; i < 12; i++) {
+        holds = step_anything(&places) && holds;
+    }
+    free(places.map);
+    free(places.store);
+    free(places.image);
+    return holds;
+}
+
+static void any_input(void)
+{
+    unsigned unlike = 0;
+    for (unsigned i = 0; i < 20000; i++) {
+        if (!run_any_list()) {
+            unlike++;
+        }
+    }
+    expect(unlike == 0, "any input: refusals leave all, states stay sound");
+}
+
+int main(void)
+{
+    static void (*const groups_of_checks[])(void) = {
+        bench_reader, bench_composer, bench_writing, read_and_write,
+        writer_ranges, composer_ranges, check_fields, check_places,
+        check_lengths, check_bank_rules, check_order, look_calls, start_calls,
+        power_on_calls, idle_state_rules, waiting_state_rules,
+        staged_state_rules, latched_state_rules, order_of_step, packed_states,
+        pairs_from_the_left, frames_between_halves, what_keeps_write_enable,
+        writes_not_executed, writes_not_taken, staging_again, locks,
+        banks_apart, every_width, reads, latch_and_writes, resets, addresses, groups,
+        registers, trace_files, trace_records, any_input};
+    for (size_t i = 0;
+         i < sizeof groups_of_checks / sizeof groups_of_checks[0]; i++) {
+        groups_of_checks[i]();
+    }
+    printf("%u passed, %u failed\n", passed, failed);
+    return failed == 0 ? EXIT_SUCCESS : EXIT_FAILURE;
+}

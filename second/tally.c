@@ -1,0 +1,214 @@
+/* tally FOLDER...: runs scenario folders through the library and prints how
+   often each thing happened, summed over all. */
+#include "tally.h"
+
+#include <inttypes.h>
+#include <stdlib.h>
+
+#include "files.h"
+
+uint64_t second_tally[TALLY_COUNT];
+
+/* What is seen from outside the library. */
+static uint64_t scenarios;
+static uint64_t started;
+static uint64_t refusals[16];
+static uint64_t cut[VALUE_LIMIT + 1]; /* by width */
+static uint64_t broken_halves;
+static uint64_t late_halves;
+static uint64_t between_event;
+static uint64_t between_reserved;
+static uint64_t between_other;
+static uint64_t clock_ran_over;
+static uint64_t frame_steps;
+static uint64_t answers;
+
+/* A pair that a frame broke, until the next record. */
+typedef struct Broken {
+    bool set;
+    uint32_t half;
+    uint32_t clock;
+    uint32_t between;
+} Broken;
+
+/* The names of the library's counters, in their order. */
+static const char *const names[TALLY_COUNT] = {
+    "pair-reset-memory-bank",
+    "pair-set-short-address",
+    "pair-enable-write-memory",
+    "pair-add-to-device-groups-0-15",
+    "pair-add-to-device-groups-16-31",
+    "pair-remove-from-device-groups-0-15",
+    "pair-remove-from-device-groups-16-31",
+    "complete-writing-width-1",
+    "complete-writing-width-2",
+    "complete-writing-width-3",
+    "complete-writing-width-4",
+    "complete-writing-width-5",
+    "complete-writing-width-6",
+    "complete-writing-width-7",
+    "complete-writing-width-8",
+    "reset-acts",
+    "reset-does-not-act",
+    "banks-reset",
+    "read-from-latch",
+    "read-from-store",
+    "read-unmapped-bank",
+    "read-unmapped-location",
+    "write-not-executed",
+    "write-not-taken",
+    "write-taken",
+    "power-on",
+    "event-frame",
+    "reserved-frame",
+    "foreign-frame",
+    "unlisted-frame",
+    "single-command",
+    "first-half",
+    "staging-dropped",
+    "nothing-staged-to-drop"};
+
+/* Staging dropped before it was whole, by the width of its value. */
+static void tally_cut(const Files *files, const Unit *before)
+{
+    uint32_t found = second_look(files->map, files->map_len, files->store,
+                                 files->store_len, before->staged_bank,
+                                 before->staged_first);
+    cut[found >> 8 & 0xFF]++;
+}
+
+/* The kind of frame that stood between two halves. */
+static void tally_between(uint32_t frame)
+{
+    uint64_t word = second_read(frame);
+    if (word >> 56 != 0) {
+        between_reserved++;
+    } else if ((word >> 48 & 0xFF) >= EVENT) {
+        between_event++;
+    } else {
+        between_other++;
+    }
+}
+
+/* Frames between halves that broke a pair, and halves that came too late. */
+static void tally_halves(const Unit *before, const TraceRecord *record,
+                         Broken *broken)
+{
+    if (broken->set && record->frame == broken->half
+        && (uint32_t)(record->clock - broken->clock) <= 100) {
+        broken_halves++;
+        tally_between(broken->between);
+    }
+    broken->set = false;
+    if (before->waiting == 0) {
+        return;
+    }
+    if (before->waiting_frame != record->frame) {
+        broken->set = true;
+        broken->half = before->waiting_frame;
+        broken->clock = before->waiting_clock;
+        broken->between = record->frame;
+    } else if ((uint32_t)(record->clock - before->waiting_clock) > 100) {
+        late_halves++;
+    } else if (record->clock < before->waiting_clock) {
+        clock_ran_over++;
+    }
+}
+
+static void tally_record(Files *files, Unit *unit, const TraceRecord *record,
+                         Broken *broken)
+{
+    Unit before = *unit;
+    uint64_t dropped = second_tally[TALLY_STAGING_DROPPED];
+    uint32_t result = obey_record(files, unit, record);
+    refusals[result & 0x0F]++;
+    answers += result >> 8 & 1;
+    if (second_tally[TALLY_STAGING_DROPPED] > dropped
+        || (record->kind == POWER_ON_RECORD && before.staged > 0)) {
+        tally_cut(files, &before);
+    }
+    if (record->kind == FRAME_RECORD) {
+        frame_steps++;
+        tally_halves(&before, record, broken);
+    } else {
+        broken->set = false;
+    }
+}
+
+static void run_records(Files *files, Unit *unit, FILE *input)
+{
+    Broken broken = {false, 0, 0, 0};
+    TraceRecord record = read_record(input);
+    while (record.kind != NO_RECORD) {
+        tally_record(files, unit, &record, &broken);
+        if (record.kind == BAD_RECORD) {
+            return;
+        }
+        record = read_record(input);
+    }
+}
+
+static void run_folder(const char *folder)
+{
+    static Files files;
+    char path[4096];
+    Unit unit;
+    (void)snprintf(path, sizeof path, "%s/input", folder);
+    FILE *input = fopen(path, "rb");
+    if (input == NULL) {
+        (void)fprintf(stderr, "cannot read %s\n", path);
+        exit(EXIT_FAILURE);
+    }
+    read_files(folder, &files);
+    uint32_t number = start_from_files(&files, &unit);
+    scenarios++;
+    refusals[number & 0x0F]++;
+    if (number == 0) {
+        started++;
+        run_records(&files, &unit, input);
+    }
+    (void)fclose(input);
+}
+
+static void print_line(const char *name, uint64_t count)
+{
+    printf("%s %" PRIu64 "\n", name, count);
+}
+
+static void print_all(void)
+{
+    static const unsigned possible[7] = {6, 7, 8, 9, 10, 11, 13};
+    char name[40];
+    print_line("scenarios", scenarios);
+    print_line("started", started);
+    for (unsigned i = 0; i < 7; i++) {
+        (void)snprintf(name, sizeof name, "refusal-%u", possible[i]);
+        print_line(name, refusals[possible[i]]);
+    }
+    print_line("refusal-1-12-14", refusals[1] + refusals[12] + refusals[14]);
+    for (unsigned i = 0; i < TALLY_COUNT; i++) {
+        print_line(names[i], second_tally[i]);
+    }
+    for (unsigned width = 2; width <= VALUE_LIMIT; width++) {
+        (void)snprintf(name, sizeof name, "cut-writing-width-%u", width);
+        print_line(name, cut[width]);
+    }
+    print_line("pair-broken-by-a-frame-between", broken_halves);
+    print_line("pair-broken-by-an-event", between_event);
+    print_line("pair-broken-by-a-reserved-frame", between_reserved);
+    print_line("pair-broken-by-a-command", between_other);
+    print_line("second-half-too-late", late_halves);
+    print_line("pair-while-the-clock-runs-over", clock_ran_over);
+    print_line("answers", answers);
+    print_line("frame-steps", frame_steps);
+    print_line("total-steps", frame_steps + second_tally[TALLY_POWER_ON]);
+}
+
+int main(int argc, char **argv)
+{
+    for (int i = 1; i < argc; i++) {
+        run_folder(argv[i]);
+    }
+    print_all();
+    return EXIT_SUCCESS;
+}

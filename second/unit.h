@@ -1,0 +1,121 @@
+/* The bus unit's rules: every public call. */
+#ifndef SECOND_UNIT_H
+#define SECOND_UNIT_H
+
+#include <stdbool.h>
+#include <stddef.h>
+#include <stdint.h>
+
+/* Refusal numbers. */
+enum {
+    FRAME_TOO_LARGE = 1,    /* frame 16,777,216 or more */
+    RESERVED_ADDRESS = 2,   /* reserved address byte */
+    RESERVED_INSTANCE = 3,  /* reserved instance byte */
+    RESERVED_EVENT = 4,     /* reserved event */
+    MALFORMED_POWER = 5,    /* power event with a non-zero blank field */
+    FIELD_OUT_OF_RANGE = 6, /* field out of range: writer, composer, start */
+    MAP_LENGTH = 7,         /* map not a multiple of 8 bytes, or over 512 */
+    RECORD_FIELDS = 8,      /* a record's own fields break the rules */
+    RECORD_ORDER = 9,       /* records out of order or overlapping */
+    STORE_PLACES = 10,      /* store and image lengths differ, exceed 4,096,
+                               or a place is outside or shared */
+    BANK_RULE = 11,         /* a bank rule of 0x00, 0x02 or bank 0 broken */
+    STATE_RULE = 12,        /* a rule of a state broken */
+    TRACE_RECORD = 13,      /* trace record unfinished or of unknown kind */
+    NO_VALUE = 14           /* no value begins there */
+};
+
+enum {
+    MAP_LIMIT = 512,    /* records of 8 bytes, 0 to 64 of them */
+    STORE_LIMIT = 4096, /* store and reset image: 0 to 4,096 bytes */
+    VALUE_LIMIT = 8,    /* width 1..8 */
+    STATE_BYTES = 96,   /* a state as bytes */
+    NO_ADDRESS = 255    /* short address 0..63 or 255 */
+};
+
+/* Kinds of a message, its second byte from the top. */
+enum { COMMAND = 0, SPECIAL = 1, EVENT = 2, POWER_CYCLE = 7 };
+
+/* Kinds of an address. */
+enum { SHORT_ADDRESS = 0, DEVICE_GROUP = 1, UNADDRESSED = 2, BROADCAST = 3 };
+
+/* State. Any numbers may be handed in; the rules of a state are tested. */
+typedef struct Unit {
+    uint8_t address;                 /* short address (0..63 or 255) */
+    uint32_t groups;                 /* 32 group bits */
+    uint8_t dtr0;                    /* DTR0..2 */
+    uint8_t dtr1;
+    uint8_t dtr2;
+    uint8_t waiting;                 /* 1: one waiting frame */
+    uint32_t waiting_frame;
+    uint32_t waiting_clock;          /* with its clock */
+    uint8_t write_enable;            /* 1: open */
+    uint8_t staged;                  /* how many bytes are staged */
+    uint8_t staged_bank;
+    uint8_t staged_first;            /* first location of the staged value */
+    uint8_t staged_bytes[VALUE_LIMIT];
+    uint8_t latched;                 /* 1: a value is latched */
+    uint8_t latched_bank;
+    uint8_t latched_first;           /* first location of the latched value */
+    uint8_t latched_bytes[VALUE_LIMIT];
+} Unit;
+
+/* The reader: the message word of a frame, eight bytes from high to low:
+   refusal number, kind, then
+     command: address kind, address number, target kind, target number,
+              opcode, 0
+     special: number, first free byte, second free byte, 0, 0, 0
+     event:   field of bits 22 or 21..17, field of bits 14..10,
+              information high, information low, 0, 0
+     power:   group present, group, short address present, short address, 0, 0
+   A refusal has its number and seven zeros. */
+uint64_t second_read(uint32_t frame);
+
+/* The writer and the composers: number << 24 | frame; a refusal has frame 0. */
+uint32_t second_write(uint64_t word);
+uint32_t second_compose_event(uint32_t type, uint32_t number, uint32_t primary,
+                              uint32_t short_address, uint32_t groups,
+                              uint32_t information, uint32_t scheme);
+uint32_t second_compose_power(uint32_t short_address, uint32_t groups);
+
+/* The first of 7 to 11 that is given, or 0. */
+uint32_t second_check(const uint8_t *map, size_t map_len, const uint8_t *store,
+                      size_t store_len, size_t image_len);
+
+/* The look call: number | width << 8 | store offset << 16; a refusal has
+   width and offset 0. The value's bytes are store[offset] on. */
+uint32_t second_look(const uint8_t *map, size_t map_len, const uint8_t *store,
+                     size_t store_len, uint8_t bank, uint8_t location);
+
+/* Start, a later power-on, a frame step:
+   number | answered << 8 | answer << 16. */
+uint32_t second_start(const uint8_t *map, size_t map_len, uint8_t *store,
+                      size_t store_len, const uint8_t *image, size_t image_len,
+                      uint8_t address, uint32_t groups, Unit *unit);
+uint32_t second_power_on(const uint8_t *map, size_t map_len, uint8_t *store,
+                         size_t store_len, const uint8_t *image,
+                         size_t image_len, Unit *unit);
+uint32_t second_frame(const uint8_t *map, size_t map_len, uint8_t *store,
+                      size_t store_len, const uint8_t *image, size_t image_len,
+                      Unit *unit, uint32_t frame, uint32_t clock);
+
+/* The state as 96 bytes, high bytes first. Unpacking is false, and the unit
+   all zeros, where a flag is over 1 or a byte from 40 on is not zero. */
+void second_pack(const Unit *unit, uint8_t out[STATE_BYTES]);
+bool second_unpack(const uint8_t in[STATE_BYTES], Unit *unit);
+
+/* The same three calls over a state of 96 bytes. */
+uint32_t second_start_bytes(const uint8_t *map, size_t map_len, uint8_t *store,
+                            size_t store_len, const uint8_t *image,
+                            size_t image_len, uint8_t address, uint32_t groups,
+                            uint8_t state[STATE_BYTES]);
+uint32_t second_power_on_bytes(const uint8_t *map, size_t map_len,
+                               uint8_t *store, size_t store_len,
+                               const uint8_t *image, size_t image_len,
+                               uint8_t state[STATE_BYTES]);
+uint32_t second_frame_bytes(const uint8_t *map, size_t map_len, uint8_t *store,
+                            size_t store_len, const uint8_t *image,
+                            size_t image_len, uint8_t state[STATE_BYTES],
+                            uint32_t frame, uint32_t clock);
+
+#endif
