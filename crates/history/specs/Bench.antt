@@ -5,21 +5,16 @@ use Prim.Native.Nat.{ℕ, suc, _<_}
 use lib.ListN.{length}
 use Rattle.banks.specs.Map.{recordsOf}
 use Rattle.banks.specs.declared.record.Record.{Record}
-use Rattle.hearing.specs.declared.rooms.Who.{Who}
 use Rattle.unit.specs.Run.{Input}
-use Rattle.unit.specs.Bench.{benchMap, at, p11, p12}
+use Rattle.unit.specs.Bench.{benchMap, benchWho, at, enabledBy, lastFrame}
 use Rattle.history.specs.Writing.{past, WritingAt}
-
--- address 5, no groups
-abbrev pub benchWho : Who
-benchWho = record { address = 5; groups = 0 }
 
 -- P12's frames, and P11's
 abbrev pub p12Frames : List Input
-p12Frames = p12
+p12Frames = enabledBy 0 100
 
 abbrev pub p11Frames : List Input
-p11Frames = p11
+p11Frames = enabledBy 0 100 ++ lastFrame
 
 -- the lockable value of width 4
 abbrev pub benchValue : Record

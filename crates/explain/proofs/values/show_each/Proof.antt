@@ -1,0 +1,35 @@
+-- `explain::values::show_each` is safe and ends: the records that are left fall.
+-- Assumes nothing.
+use Prim.Native.Nat.{_-_}
+use borrow.Author.Needs.{needs}
+use Rattle.explain.proofs.values.show_each.Statement.{statement}
+use Rattle.explain.proofs.values.show_each.Tie as tie
+
+abbrev Inv-loop : tie.InvT-loop
+Inv-loop map before after number n i₀ i = Unit {0}
+
+abbrev μ-loop : tie.MeasureT-loop
+μ-loop map before after number n i₀ i = n - i
+
+pub show-each-spec : {M : Type 1} → statement M
+show-each-spec =
+    tie.close
+    (tie.spec
+    Inv-loop
+    μ-loop
+    (λ c κs. search needs)
+    (λ c κs. search needs)
+    (λ c κs. search needs)
+    (λ c κs. search needs)
+    (λ c. search needs)
+    (λ c κs. search needs)
+    (λ c. search needs)
+    (λ c κs. search needs)
+    (λ c κs. search needs)
+    (λ c κs. search needs)
+    (λ c κs. search needs)
+    (λ c κs. search needs)
+    (λ c. search needs)
+    (λ c. search needs)
+    (λ c. search needs)
+    (λ c. search needs))

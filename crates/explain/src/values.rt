@@ -1,0 +1,64 @@
+// The writable values of the map, before and after.
+ghost use Rattle.io.specs.Counts.{Counts};
+use crate::line::Line;
+use crate::words::say_refusal;
+use banks::Record;
+
+// A missing file counts as empty: nothing is read from what could not be opened.
+fn read_file(name: &[u8], room: &mut [u8]) -> usize
+    ensures { λ r. ⌜ Counts r (now (room .exit)) ⌝ }
+{
+    let fd = os::open_read(name);
+    let n = io::read_full(fd, room);
+    libc::close(fd);
+    n
+}
+
+fn show_value(r: Record, before: &[u8], after: &[u8]) {
+    let place = Line::new()
+        .numbered(b"bank ", r.bank)
+        .words(b" location ")
+        .hex(r.first);
+    let line = place.words(b": ").bytes(before);
+    if check::same(before, after) {
+        line.words(b" unchanged").print();
+    } else {
+        line.words(b" before, ")
+            .bytes(after)
+            .words(b" after")
+            .print();
+    }
+}
+
+// One line for each writable value, in map order. The store after stands for the image, so that it is seen to be as
+// long as the store before.
+fn show_each(map: &[u8], before: &[u8], after: &[u8]) {
+    let number = banks::check(map, before, after);
+    if number != 0 {
+        say_refusal(Line::new(), number).print();
+        return;
+    }
+    let n = banks::records(map);
+    let mut i = 0;
+    while i < n {
+        let r = banks::record_at(map, i);
+        if banks::is_writable(r) {
+            let old = banks::look(map, before, r.bank, r.first);
+            show_value(r, old, banks::look(map, after, r.bank, r.first));
+        }
+        i += 1;
+    }
+}
+
+// What is left of the trace program's output is the store after. Each room has a byte more than a file may have, so
+// that a longer one is seen to be longer.
+pub fn show_values(out: i32) {
+    let mut map = [0u8; 513];
+    let mut before = [0u8; 4097];
+    let mut after = [0u8; 4097];
+    let m = read_file(b"unit.map", &mut map);
+    let n = read_file(b"unit.sto", &mut before);
+    let k = io::read_full(out, &mut after);
+    Line::new().print();
+    show_each(&map[..m], &before[..n], &after[..k]);
+}
