@@ -21,10 +21,10 @@ use Rattle.hearing.specs.Meaning.{deviceCommand, firstSpecial, specialCommand, 
 use Rattle.hearing.specs.Pairs.{passed, inTime}
 use Rattle.hearing.specs.declared.rooms.Who.{Who}
 use Rattle.memory.proofs.ForHistoryStaged.{taking, unfinished}
-use Rattle.unit.specs.Bench.{benchMap}
+use Rattle.unit.specs.Bench.{benchMap, benchWho}
 use Rattle.unit.specs.Due.{withDtr}
 use Rattle.unit.specs.Run.{Input}
-use Rattle.history.specs.Bench.{benchWho, p11Frames, p12Frames, benchValue, P11Writing, P12NoWriting}
+use Rattle.history.specs.Bench.{p11Frames, p12Frames, benchValue, P11Writing, P12NoWriting}
 use Rattle.history.specs.Context.{raisedFrom, onceRegisters, registersOf, pairWho, whoOf, heardIn, poweredIn}
 use Rattle.history.specs.Context.{meant, context, deedAfter}
 use Rattle.history.specs.Lock.{lockBy, lock}

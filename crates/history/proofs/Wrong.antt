@@ -5,9 +5,9 @@ use mathlib.Core.List.{List, [], _∷_, reverse, List·Memᴰ, List·Memᴰ·hea
 use Prim.Native.Nat.{ℕ}
 use native.Mathlib.Omega.{arith}
 use Rattle.banks.specs.Map.{recordAt, recordsOf}
-use Rattle.unit.specs.Bench.{benchMap, benchStore, benchImage}
+use Rattle.unit.specs.Bench.{benchMap, benchStore, benchImage, benchWho}
 use Rattle.unit.specs.Run.{Input}
-use Rattle.history.specs.Bench.{benchWho, p11Frames, p12Frames, benchValue, p11Twice}
+use Rattle.history.specs.Bench.{p11Frames, p12Frames, benchValue, p11Twice}
 use Rattle.history.specs.Demand.{bytesOf, Demand}
 use Rattle.history.specs.Machine.{Machine, after, unitMachine}
 use Rattle.history.specs.Wrong.{eachByte, firstOnly, neverStores, WrongOnesFail}
