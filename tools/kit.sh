@@ -30,3 +30,18 @@ run_program() {
     [ -f "$program" ] || { say "mirto: target/bin/$1 is not built"; return 1; }
     ${emulator:+"$emulator"} "$built/lib/ld-linux-x86-64.so.2" --library-path "$built/lib" "$program"
 }
+
+# c_compiler: the compiler whose programs link our archive, which is for x86-64.
+c_compiler() {
+    if [ "$(uname -m)" = x86_64 ]; then echo gcc; else echo x86_64-linux-gnu-gcc; fi
+}
+
+# run_x86 PROGRAM..: runs a program of that compiler; on Arm the kit's emulator runs it.
+run_x86() {
+    if [ "$(uname -m)" = x86_64 ]; then
+        "$@"
+    else
+        rt_file=$(readlink -f "$(command -v rt)")
+        "${RATTLE_HOME:-$(dirname "$(dirname "$rt_file")")}/on/$(uname -m)/toolchain/bin/qemu-x86_64" -L /usr/x86_64-linux-gnu "$@"
+    fi
+}
