@@ -1,0 +1,94 @@
+// Records on standard input, as they come, and what is written for them.
+ghost use Prim.Native.Nat.{_*_, _<_, _≤_};
+ghost use lib.ListN.{length};
+ghost use Rattle.io.specs.Counts.{Counts};
+use libc::STDIN_FILENO;
+use libc::STDOUT_FILENO;
+use unit::State;
+
+// Between two reads: the state, how many bytes of an unfinished record wait at the front of the input, whether one is left
+// at the end, and whether to read on.
+struct Flow {
+    state: State,
+    kept: usize,
+    unfinished: bool,
+    goes_on: bool,
+}
+
+// Internal: reads once, behind the bytes that are kept, and answers where the input ends then.
+fn read_more(input: &mut [u8], kept: usize) -> usize
+    requires { ⌜ kept ≤ length (now input) ⌝ }
+    ensures { λ r. ⌜ Counts r (now (input .exit)) ⌝ }
+{
+    let got = libc::read(STDIN_FILENO, &mut input[kept..]);
+    kept + io::count(got, &input[kept..])
+}
+
+// Internal: each record's four bytes.
+fn write_answers(output: &[u8], count: usize)
+    requires { ⌜ 4 * count ≤ length (now output) ⌝ }
+{
+    let end = 4 * count;
+    io::write_all(STDOUT_FILENO, &output[..end]);
+}
+
+// Internal: reads once, and writes what the records answer that are whole then. A record cut by the read waits.
+fn trace_some(
+    map: &[u8],
+    store: &mut [u8],
+    image: &[u8],
+    flow: Flow,
+    input: &mut [u8],
+    output: &mut [u8],
+) -> Flow
+    requires { ⌜ flow .kept ≤ length (now input) ⌝ }
+    ensures { λ r. ⌜ r .kept < 8 ⌝ }
+{
+    let state = flow.state;
+    let filled = read_more(input, flow.kept);
+    let ran = tracing::run(map, store, image, state, &input[..filled], output);
+    write_answers(output, ran.count);
+    let after = ran.state;
+    let kept = tracing::keep_rest(input, filled);
+    Flow {
+        state: after,
+        kept: kept,
+        unfinished: (kept > 0) & !ran.ended,
+        goes_on: (filled > flow.kept) & !ran.ended,
+    }
+}
+
+// Answers whether the input ends in an unfinished record. A proved loop has to end, and nothing says that the input does:
+// so it counts its turns down, from a number that no run uses up.
+fn trace_all(map: &[u8], store: &mut [u8], image: &[u8], state: State) -> bool {
+    let mut input = io::large_buffer();
+    let mut output = io::large_buffer();
+    let mut flow = Flow {
+        state: state,
+        kept: 0,
+        unfinished: false,
+        goes_on: true,
+    };
+    let mut turns = u64::MAX;
+    while turns > 0 && flow.goes_on {
+        flow = trace_some(map, store, image, flow, &mut input, &mut output);
+        turns -= 1;
+    }
+    flow.unfinished
+}
+
+// A refused start writes its 4 bytes only. Last the store is written.
+pub fn trace(map: &[u8], store: &mut [u8], image: &[u8], adr: &[u8]) {
+    let number = tracing::number_of_files(map, store, image, adr);
+    if number != 0 {
+        io::write_all(STDOUT_FILENO, &[number, 0, 0, 0]);
+        return;
+    }
+    let who = tracing::who_of(adr);
+    let started = unit::start(map, store, image, who);
+    let state = started.state;
+    if trace_all(map, store, image, state) {
+        io::write_all(STDOUT_FILENO, &[13, 0, 0, 0]);
+    }
+    io::write_all(STDOUT_FILENO, store);
+}

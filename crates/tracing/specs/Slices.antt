@@ -1,0 +1,13 @@
+-- What stays of a slice of the input when its whole records are done.
+-- Assumes nothing.
+use Prim.Native.Nat.{ℕ, _-_, _%_, _<_}
+use mathlib.Core.Path.{_≡_}
+use mathlib.Core.List.{List}
+use lib.ListN.{take}
+use Rattle.laws.specs.Parts.{part}
+
+-- of the first `filled` bytes, those behind the whole records: fewer than 8, now in front
+pub record Keeps (kept : ℕ) (before after : List ℕ) (filled : ℕ) : Type 0 where
+  pub many : kept ≡ filled % 8
+  pub few : kept < 8
+  pub moved : take kept after ≡ part (filled - kept) kept before

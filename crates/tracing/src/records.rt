@@ -1,0 +1,148 @@
+// A run of records: map, store, image and state are checked once; then each record's step, and its four bytes.
+ghost use mathlib.Core.Path.{_≡_};
+ghost use mathlib.Core.Bool.{true};
+ghost use Prim.Native.Nat.{_+_, _≤_};
+ghost use lib.ListN.{length};
+ghost use Rattle.laws.specs.Choice.{if_then_else_};
+ghost use Rattle.laws.specs.Outcome.{Gives};
+ghost use Rattle.laws.specs.Parts.{put};
+ghost use Rattle.unit.specs.Step.{refusing, powerNumber};
+ghost use Rattle.unit.specs.Run.{outputOf};
+ghost use Rattle.tracing.specs.Entry.{entries, isFramed};
+ghost use Rattle.tracing.specs.Trace.{tracedOf};
+ghost use Rattle.tracing.specs.Run.{turnOf, Begins, Turns, roomFor, Runs};
+use crate::entry::Entry;
+use crate::entry::entry_at;
+use crate::entry::is_broken;
+use unit::Reply;
+use unit::State;
+use unit::Stepped;
+
+// How far a run has come: the state, the records answered, and whether 13 ended it.
+pub struct Ran {
+    pub state: State,
+    pub count: usize,
+    pub ended: bool,
+}
+
+fn zero_or_one(answered: bool) -> u8
+    ensures { λ r. ⌜ r ≡ (if answered then 1 else 0) ⌝ }
+{
+    if answered { 1 } else { 0 }
+}
+
+// Internal: number or 0, answered 0/1, answer or 0, zero.
+fn write_reply(output: &mut [u8], at: usize, reply: Reply)
+    requires { ⌜ at + 4 ≤ length (now output) ⌝ }
+    ensures { λ _. ⌜ now (output .exit) ≡ put at (outputOf reply) (now (output .entry)) ⌝ }
+{
+    output[at] = reply.number;
+    output[at + 1] = zero_or_one(reply.answered);
+    output[at + 2] = reply.answer;
+    output[at + 3] = 0;
+}
+
+fn refuse(state: State, number: u8) -> Stepped
+    ensures { λ r. ⌜ r ≡ refusing state number ⌝ }
+{
+    let reply = Reply {
+        number: number,
+        answered: false,
+        answer: 0,
+    };
+    Stepped {
+        reply: reply,
+        state: state,
+    }
+}
+
+// Internal: what the record's public call would do. Its number is known from the one check.
+fn step_entry(
+    map: &[u8],
+    store: &mut [u8],
+    image: &[u8],
+    state: State,
+    number: u8,
+    entry: Entry,
+) -> Stepped
+    requires { ⌜ (number ≡ powerNumber (now map) (now store) (length (now image)) state) × (isFramed entry ≡ true) ⌝ }
+    ensures { λ r. ⌜ Gives r (now (store .exit)) (turnOf (now (map .entry)) (now (image .entry)) (now (store .entry)) state entry) ⌝ }
+{
+    match entry {
+        Entry::Hears(heard) => {
+            if number != 0 {
+                return refuse(state, number);
+            }
+            unit::frame_step(map, store, image, state, heard)
+        }
+        Entry::PowerOn => {
+            if number != 0 {
+                return refuse(state, number);
+            }
+            let who = state.who;
+            unit::power_step(map, store, image, who)
+        }
+        Entry::Broken => refuse(state, 13),
+    }
+}
+
+// Internal: one turn of a run: the next record's step, and its four bytes.
+fn turn(
+    map: &[u8],
+    store: &mut [u8],
+    image: &[u8],
+    ran: Ran,
+    number: u8,
+    records: &[u8],
+    output: &mut [u8],
+) -> Ran
+    requires { ⌜ Begins ran (now map) (now store) (now image) (now records) (now output) number ⌝ }
+    ensures { λ r. ⌜ Turns ran r (now (map .entry)) (now (store .entry)) (now (store .exit)) (now (image .entry)) (now (records .entry)) (now (output .entry)) (now (output .exit)) number ⌝ }
+{
+    let count = ran.count;
+    let at = 4 * count;
+    let next = count + 1;
+    let before = ran.state;
+    let entry = entry_at(records, count);
+    let stepped = step_entry(map, store, image, before, number, entry);
+    let reply = stepped.reply;
+    write_reply(output, at, reply);
+    let state = stepped.state;
+    Ran {
+        state: state,
+        count: next,
+        ended: is_broken(entry),
+    }
+}
+
+fn room_for(records: usize, output: usize) -> usize
+    ensures { λ r. ⌜ r ≡ roomFor records output ⌝ }
+{
+    let whole = records / 8;
+    let room = output / 4;
+    if room < whole { room } else { whole }
+}
+
+// Runs the whole records, as many as the output has room for.
+pub fn run(
+    map: &[u8],
+    store: &mut [u8],
+    image: &[u8],
+    state: State,
+    records: &[u8],
+    output: &mut [u8],
+) -> Ran
+    ensures { λ r. ⌜ Runs r (now (store .exit)) (now (output .exit)) (now (output .entry)) (tracedOf (now (map .entry)) (now (image .entry)) (now (store .entry)) state (entries (now (records .entry)) (roomFor (length (now (records .entry))) (length (now (output .entry)))))) ⌝ }
+{
+    let n = room_for(records.len(), output.len());
+    let number = unit::power_number(map, store, image, state);
+    let mut ran = Ran {
+        state: state,
+        count: 0,
+        ended: false,
+    };
+    while (ran.count < n) & !ran.ended {
+        ran = turn(map, store, image, ran, number, records, output);
+    }
+    ran
+}
