@@ -1,0 +1,10 @@
+pub mod Spelled
+pub mod Packed
+pub mod Composed
+pub mod Round
+pub mod Faced
+pub mod Words
+pub mod Numbers
+pub mod Settled
+pub mod Cases
+pub mod Run

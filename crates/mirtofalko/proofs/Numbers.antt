@@ -1,0 +1,109 @@
+-- The numbers of the calls over a state of 96 bytes, and that a refusal leaves everything.
+-- Assumes nothing.
+use Prim.Native.Nat.{ℕ, _<_}
+use mathlib.Core.Path.{_≡_, refl, sym, ap, _∙_}
+use mathlib.Core.Bool.{Bool, true, false, _&&_}
+use mathlib.Core.List.{List, [], _∷_, _++_}
+use lib.Dec.{ltb}
+use lib.ListN.{length, replicate}
+use Rattle.laws.specs.Bits.{bits}
+use Rattle.laws.specs.Numbers.{Test, test, firstFailing, numbered}
+use Rattle.laws.specs.Outcome.{Outcome}
+use Rattle.laws.proofs.Numbers.{exactly-if, none-exactly-if}
+use Rattle.banks.specs.Rules.{checkTests}
+use Rattle.hearing.specs.declared.rooms.Heard.{Heard}
+use Rattle.unit.specs.State.{poweredOn, zeroState}
+use Rattle.unit.specs.Step.{stepNumber, stepOf, powerNumber, powerOnOf, startNumber}
+use Rattle.unit.specs.Promises.{GivenBy, numberOf}
+use Rattle.unit.specs.Promises.{Refuses as UnitRefuses}
+use Rattle.unit.specs.declared.state.State.{State}
+use Rattle.unit.specs.declared.state.Stepped.{Stepped}
+use Rattle.unit.proofs.Numbers.{calls-numbered, calls-refused}
+use Rattle.mirtofalko.specs.StateBytes.{bytesOf, stateBytes, stateOf, shapeHolds}
+use Rattle.mirtofalko.specs.Face.{facedBy, shapeNumber, onBytes, frameFace, powerOnFace, startFace}
+use Rattle.mirtofalko.specs.Promises.{Bytes, frameTests, powerOnTests, FacesNumbered, Refuses, FacesRefused}
+use Rattle.mirtofalko.proofs.Round.{bytes-back}
+
+-- a test that fails shuts off the tests behind it
+pub shut-off : (ts us : List Test) (n : ℕ) → firstFailing (ts ++ test n false ∷ us) ≡ firstFailing (ts ++ test n false ∷ [])
+unfolding firstFailing
+shut-off [] us n = refl
+shut-off (t ∷ ts) us n = rw (shut-off ts us n)
+
+given-by : (n : ℕ) (ts : List Test) → n ≡ firstFailing ts → numbered ts ≡ true → GivenBy n ts
+given-by n ts e k =
+    rw e (record { exactly-if = exactly-if ts; none-exactly-if = none-exactly-if ts k })
+
+module _ (map store image : List ℕ) where
+  -- by the bytes: a state's or not
+  frame-number : (bytes : List ℕ) (frame clock : ℕ) (shaped : Bool) → shapeHolds bytes ≡ shaped →
+      frameFace map store image bytes frame clock .reply .number
+      ≡ firstFailing (frameTests map store (length image) bytes frame)
+  unfolding frameFace stepNumber shapeNumber
+  frame-number bytes frame clock true e =
+      rw e (calls-numbered map store image .step-replies (stateOf bytes) (record { clock = clock; frame = frame }))
+  frame-number bytes frame clock false e =
+      rw e (sym (shut-off (checkTests map store (length image)) (test 1 (ltb frame 16777216) ∷ []) 12))
+
+  power-on-number : (bytes : List ℕ) (shaped : Bool) → shapeHolds bytes ≡ shaped →
+      powerOnFace map store image bytes .reply .number
+      ≡ firstFailing (powerOnTests map store (length image) bytes)
+  unfolding powerOnFace powerNumber shapeNumber
+  power-on-number bytes true e = rw e (calls-numbered map store image .power-replies (stateOf bytes))
+  power-on-number bytes false e = rw e
+
+pub faces-numbered : FacesNumbered
+unfolding startFace startNumber
+faces-numbered map store image =
+    record {
+      start = λ address groups. given-by _ _ (calls-numbered map store image .start-replies _) refl;
+      frame = λ bytes frame clock. given-by _ _ (frame-number map store image bytes frame clock _ refl) refl;
+      power-on = λ bytes. given-by _ _ (power-on-number map store image bytes _ refl) refl;
+    }
+
+-- what the unit refuses is refused
+refuses : (o : Outcome Stepped) (n : ℕ) (s : State) (store bytes : List ℕ) →
+    UnitRefuses o n s store → stateBytes s ≡ bytes → Refuses (facedBy o) bytes store
+refuses o n s store bytes r e =
+    record {
+      unanswered = r .unanswered;
+      no-answer = r .no-answer;
+      state-stays = ap stateBytes (r .state-stays) ∙ e;
+      store-stays = r .store-stays;
+    }
+
+-- bytes that are no state's, and bytes that are
+on-bytes : (map store bytes : List ℕ) (kept : ℕ) (o : Outcome Stepped) (shaped : Bool) → shapeHolds bytes ≡ shaped →
+    0 < onBytes map store kept bytes o .reply .number →
+    (shapeHolds bytes ≡ true → 0 < numberOf o → Refuses (facedBy o) bytes store) →
+    Refuses (onBytes map store kept bytes o) bytes store
+on-bytes map store bytes kept o true e h f = rw e (f e (rw e at h))
+on-bytes map store bytes kept o false e h f =
+    rw e (record { unanswered = refl; no-answer = refl; state-stays = refl; store-stays = refl })
+
+zero-bytes : stateBytes zeroState ≡ replicate 96 0
+unfolding stateBytes bytesOf bits poweredOn
+zero-bytes = refl
+
+pub faces-refused : FacesRefused
+unfolding startFace frameFace powerOnFace
+faces-refused map store image =
+    record {
+      start = λ address groups h.
+        refuses _ _ zeroState store _
+          (calls-refused map store image _ h .start _ (sym (calls-numbered map store image .start-replies _)))
+          zero-bytes;
+      frame = λ bytes b frame clock h.
+        let heard : Heard = record { clock = clock; frame = frame } in
+        on-bytes map store bytes (length image) (stepOf map store image (stateOf bytes) heard) _ refl h
+          (λ t k. refuses _ _ (stateOf bytes) store bytes
+            (calls-refused map store image _ k .step (stateOf bytes) heard
+              (sym (calls-numbered map store image .step-replies (stateOf bytes) heard)))
+            (bytes-back bytes b t));
+      power-on = λ bytes b h.
+        on-bytes map store bytes (length image) (powerOnOf map store image (stateOf bytes)) _ refl h
+          (λ t k. refuses _ _ (stateOf bytes) store bytes
+            (calls-refused map store image _ k .power-on (stateOf bytes)
+              (sym (calls-numbered map store image .power-replies (stateOf bytes))))
+            (bytes-back bytes b t));
+    }

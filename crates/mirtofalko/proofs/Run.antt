@@ -1,0 +1,105 @@
+-- A run of records, faced. On a state that breaks a rule each record is refused, and state and store stay.
+-- Assumes nothing.
+use Prim.Native.Nat.{ℕ, zero, suc, _/_}
+use mathlib.Core.Path.{_≡_, refl, sym, ap, _∙_}
+use mathlib.Core.Bool.{Bool, true, false, not}
+use mathlib.Core.List.{List, [], _∷_, _++_}
+use native.Mathlib.Omega.{arith}
+use lib.Dec.{ltb, eqb}
+use lib.ListN.{length, drop}
+use borrow.Author.Tests.{ne-eqb, not-true, not-false}
+use Rattle.laws.specs.Choice.{if_then_else_}
+use Rattle.laws.specs.Lists.{some}
+use Rattle.laws.specs.Numbers.{test, firstFailing}
+use Rattle.laws.specs.Outcome.{Outcome, leaves}
+use Rattle.banks.specs.Map.{recordsOf}
+use Rattle.banks.specs.Rules.{checkTests, checkNumber}
+use Rattle.unit.specs.Rules.{addressHolds, stateHolds}
+use Rattle.unit.specs.Step.{refusing, stepNumber, powerNumber, stepOf, powerOnOf}
+use Rattle.unit.specs.Run.{Input, power-on, hears, Run, inputOf, outputOf, runFrom}
+use Rattle.unit.specs.declared.state.State.{State}
+use Rattle.unit.specs.declared.state.Stepped.{Stepped}
+use Rattle.tracing.specs.Entry.{isBroken}
+use Rattle.tracing.specs.Trace.{inputsOf, broken, Traced, tracedOf}
+use Rattle.tracing.specs.Run.{Runs}
+use Rattle.tracing.specs.declared.entry.Entry.{Entry}
+use Rattle.tracing.specs.declared.records.Ran.{Ran}
+use Rattle.mirtofalko.specs.StateBytes.{stateBytes, stateOf, shapeHolds}
+use Rattle.mirtofalko.specs.Face.{shapeNumber, refusedRun, runFace, RunFaces}
+use Rattle.mirtofalko.proofs.Faced.{shape-first, shape-then}
+use Rattle.mirtofalko.proofs.Numbers.{shut-off}
+
+-- it is a number
+not-none : (map store : List ℕ) (kept n : ℕ) → checkNumber map store kept ≡ n → shapeNumber map store kept ≡ 0 → ⊥
+not-none map store kept zero e z = omega (arith, shape-then map store kept 0 (sym e) refl)
+not-none map store kept (suc n) e z = omega (arith, shape-first map store kept (suc n) (sym e) (λ h. omega arith))
+
+module _ (map store image : List ℕ) (s : State) (unfit : stateHolds (recordsOf map) store s ≡ false) where
+  abbrev number : ℕ
+  number = shapeNumber map store (length image)
+
+  is-number : eqb number 0 ≡ false
+  is-number = ne-eqb number 0 (not-none map store (length image) _ refl)
+
+  step-number : (frame : ℕ) → stepNumber map store (length image) s frame ≡ number
+  unfolding stepNumber shapeNumber
+  step-number frame =
+      rw unfit (shut-off (checkTests map store (length image)) (test 1 (ltb frame 16777216) ∷ []) 12)
+
+  power-number : powerNumber map store (length image) s ≡ number
+  unfolding powerNumber shapeNumber
+  power-number = rw unfit
+
+  refused : (x : Input) → inputOf map image store s x ≡ leaves (refusing s number) store
+  unfolding inputOf stepOf powerOnOf
+  refused power-on = rw (power-number, is-number)
+  refused (hears heard) = rw (step-number (heard .frame), is-number)
+
+  abbrev told : List Input → List ℕ
+  told [] = []
+  told (x ∷ xs) = number ∷ 0 ∷ 0 ∷ 0 ∷ told xs
+
+  runs : (xs : List Input) → runFrom map image store s xs ≡ record { output = told xs; state = s; store = store }
+  unfolding refusing outputOf
+  runs [] = refl
+  runs (x ∷ xs) = rw (refused x, runs xs)
+
+  writes : (es : List Entry) → told (inputsOf es) ++ (if some isBroken es then broken else []) ≡ refusedRun number es
+  writes [] = refl
+  writes (Entry.Hears heard ∷ es) = ap (λ (r : List ℕ). number ∷ 0 ∷ 0 ∷ 0 ∷ r) (writes es)
+  writes (Entry.PowerOn ∷ es) = ap (λ (r : List ℕ). number ∷ 0 ∷ 0 ∷ 0 ∷ r) (writes es)
+  writes (Entry.Broken ∷ es) = refl
+
+  pub refused-run : (es : List Entry) →
+      (tracedOf map image store s es .output ≡ refusedRun (shapeNumber map store (length image)) es)
+      × (tracedOf map image store s es .store ≡ store)
+  unfolding tracedOf
+  refused-run es = (rw (runs (inputsOf es)) (writes es), rw (runs (inputsOf es)))
+
+unfit-state : (map store : List ℕ) (s : State) → addressHolds (s .who .address) ≡ false →
+    stateHolds (recordsOf map) store s ≡ false
+unfolding stateHolds
+unfit-state map store s e = rw e
+
+module _ (map before image bytes : List ℕ) (es : List Entry) (shaped : Bool) (e : shaped ≡ shapeHolds bytes)
+    (s : State) {r : Ran} {store output prior : List ℕ} (q : Runs r store output prior (tracedOf map image before s es))
+    where
+  pub run-unshaped : not shaped ≡ true → addressHolds (s .who .address) ≡ false →
+      RunFaces (r .count) bytes store output prior (runFace map before image bytes es)
+  unfolding runFace
+  run-unshaped t f =
+      let p = refused-run map before image s (unfit-state map before s f) es in
+      rw (sym e ∙ not-true shaped t)
+      (record {
+        counts = q .count ∙ ap (λ (o : List ℕ). length o / 4) (p .0);
+        keeps = refl;
+        leaves = q .leaves ∙ p .1;
+        writes = q .writes ∙ ap (λ (o : List ℕ). o ++ drop (length o) prior) (p .0);
+      })
+
+  pub run-shaped : not shaped ≡ false → s ≡ stateOf bytes → {state : List ℕ} → state ≡ stateBytes (r .state) →
+      RunFaces (r .count) state store output prior (runFace map before image bytes es)
+  unfolding runFace
+  run-shaped t h k =
+      rw (sym e ∙ not-false shaped t, ← h)
+      (record { counts = q .count; keeps = k ∙ ap stateBytes (q .state); leaves = q .leaves; writes = q .writes })

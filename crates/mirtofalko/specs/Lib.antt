@@ -1,0 +1,5 @@
+pub mod StateBytes
+pub mod Answers
+pub mod Face
+pub mod Promises
+pub mod Cases

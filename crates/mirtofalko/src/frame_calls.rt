@@ -1,0 +1,79 @@
+// The calls on frames alone.
+ghost use mathlib.Core.Path.{_≡_};
+ghost use mathlib.Core.Bool.{true};
+ghost use Rattle.frames.specs.Values.{writingWord};
+ghost use Rattle.frames.specs.Read.{readOf};
+ghost use Rattle.frames.specs.Word.{wordOf, messageOf};
+ghost use Rattle.frames.specs.Compose.{composeOf, composePowerOf};
+ghost use Rattle.mirtofalko.specs.Answers.{writtenOf, source, fieldsHeld, Held};
+use crate::answers::writing_word;
+use frames::Reading;
+use frames::Source;
+use frames::Writing;
+
+// The message word of a frame.
+#[no_mangle]
+pub extern "C" fn mf_read(frame: u32) -> u64
+    ensures { λ r. ⌜ r ≡ wordOf (readOf frame) ⌝ }
+{
+    frames::word_of(frames::read(frame))
+}
+
+// The frame of a message word.
+#[no_mangle]
+pub extern "C" fn mf_write(word: u64) -> u32
+    ensures { λ r. ⌜ r ≡ writingWord (writtenOf (messageOf word)) ⌝ }
+{
+    let Reading::Got(message) = frames::message_of(word) else {
+        return writing_word(Writing::Refused(6));
+    };
+    writing_word(frames::write(message))
+}
+
+// Each field of a source fits its type.
+fn is_held(sort: u32, number: u32, primary: u32, short: u32, information: u32, scheme: u32) -> bool
+    ensures same { λ r. ⌜ r ≡ fieldsHeld sort number primary short information scheme ⌝ }
+    ensures facts { λ r. ⌜ (r ≡ true → Held sort number primary short information scheme) ⌝ }
+{
+    let bytes = (sort <= 255) & (number <= 255) & (primary <= 255) & (short <= 255) & (scheme <= 255);
+    bytes & (information <= 65535)
+}
+
+// The frame of an event. The fields are wider than their ranges, so that none is cut to fit.
+#[no_mangle]
+pub extern "C" fn mf_compose_event(
+    sort: u32,
+    number: u32,
+    primary: u32,
+    short: u32,
+    groups: u32,
+    information: u32,
+    scheme: u32,
+) -> u32
+    ensures { λ r. ⌜ r ≡ writingWord (composeOf (source sort number primary short groups information scheme)) ⌝ }
+{
+    if !is_held(sort, number, primary, short, information, scheme) {
+        return writing_word(Writing::Refused(6));
+    }
+    let source = Source {
+        sort: sort as u8,
+        number: number as u8,
+        primary: primary as u8,
+        short: short as u8,
+        groups: groups,
+        information: information as u16,
+        scheme: scheme as u8,
+    };
+    writing_word(frames::compose_event(source))
+}
+
+// The frame of a power event.
+#[no_mangle]
+pub extern "C" fn mf_compose_power(short: u32, groups: u32) -> u32
+    ensures { λ r. ⌜ r ≡ writingWord (composePowerOf short groups) ⌝ }
+{
+    if short > 255 {
+        return writing_word(Writing::Refused(6));
+    }
+    writing_word(frames::compose_power(short as u8, groups))
+}

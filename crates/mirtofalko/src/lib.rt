@@ -1,0 +1,16 @@
+// The face to C: the public calls on numbers and byte slices, and a state as 96 bytes.
+mod state_bytes; // a state as 96 bytes, and back
+mod answers; // an answer as one number
+mod unit_calls; // the calls of the unit
+mod frame_calls; // the calls on frames alone
+
+pub use frame_calls::mf_compose_event;
+pub use frame_calls::mf_compose_power;
+pub use frame_calls::mf_read;
+pub use frame_calls::mf_write;
+pub use unit_calls::mf_check;
+pub use unit_calls::mf_frame;
+pub use unit_calls::mf_look;
+pub use unit_calls::mf_power_on;
+pub use unit_calls::mf_run;
+pub use unit_calls::mf_start;

@@ -1,0 +1,179 @@
+// A state as 96 bytes, high bytes first, and back.
+ghost use mathlib.Core.Path.{_≡_};
+ghost use Prim.Native.Nat.{_+_, _≤_};
+ghost use Rattle.laws.specs.Lists.{every};
+ghost use Rattle.laws.specs.Parts.{part, put};
+ghost use Rattle.tracing.specs.Entry.{fourBytes};
+ghost use Rattle.mirtofalko.specs.StateBytes.{flag, bytesOf, stateBytes, fourAt, stateOf, shapeHolds};
+ghost use lib.Dec.{eqb};
+ghost use lib.ListN.{length, drop};
+use hearing::Waiting;
+use hearing::Who;
+use memory::Latch;
+use memory::Staged;
+use unit::Door;
+use unit::Registers;
+use unit::State;
+
+pub fn flag(b: bool) -> u8
+    ensures { λ r. ⌜ r ≡ flag b ⌝ }
+{
+    if b { 1 } else { 0 }
+}
+
+// Four bytes, high first, as a number.
+fn four_bytes(a: u8, b: u8, c: u8, d: u8) -> u32
+    ensures { λ r. ⌜ r ≡ fourBytes a b c d ⌝ }
+{
+    ((a as u32 * 256 + b as u32) * 256 + c as u32) * 256 + d as u32
+}
+
+// Internal: the four bytes from place i on.
+fn four_at(bytes: [u8; 96], i: usize) -> u32
+    requires { ⌜ i + 4 ≤ 96 ⌝ }
+    ensures { λ r. ⌜ r ≡ fourAt bytes i ⌝ }
+{
+    four_bytes(bytes[i], bytes[i + 1], bytes[i + 2], bytes[i + 3])
+}
+
+// Internal: the eight bytes from place i on.
+fn eight_at(bytes: [u8; 96], i: usize) -> [u8; 8]
+    requires { ⌜ i + 8 ≤ 96 ⌝ }
+    ensures { λ r. ⌜ r ≡ part i 8 bytes ⌝ }
+{
+    [
+        bytes[i],
+        bytes[i + 1],
+        bytes[i + 2],
+        bytes[i + 3],
+        bytes[i + 4],
+        bytes[i + 5],
+        bytes[i + 6],
+        bytes[i + 7],
+    ]
+}
+
+// The state that the bytes say.
+pub fn unpack(bytes: [u8; 96]) -> State
+    ensures { λ r. ⌜ r ≡ stateOf bytes ⌝ }
+{
+    let who = Who {
+        address: bytes[0],
+        groups: four_at(bytes, 1),
+    };
+    let registers = Registers {
+        dtr0: bytes[5],
+        dtr1: bytes[6],
+        dtr2: bytes[7],
+    };
+    let waiting = Waiting {
+        held: bytes[8] == 1,
+        frame: four_at(bytes, 9),
+        clock: four_at(bytes, 13),
+    };
+    let staged_bytes = eight_at(bytes, 21);
+    let staged = Staged {
+        count: bytes[18],
+        bank: bytes[19],
+        first: bytes[20],
+        bytes: staged_bytes,
+    };
+    let door = Door {
+        enabled: bytes[17] == 1,
+        staged: staged,
+    };
+    let latched_bytes = eight_at(bytes, 32);
+    let latch = Latch {
+        held: bytes[29] == 1,
+        bank: bytes[30],
+        first: bytes[31],
+        bytes: latched_bytes,
+    };
+    State {
+        who: who,
+        registers: registers,
+        waiting: waiting,
+        door: door,
+        latch: latch,
+    }
+}
+
+// Zero from place 40 on.
+fn is_zero_behind(bytes: [u8; 96]) -> bool
+    ensures { λ r. ⌜ r ≡ every (λ x. eqb x 0) (drop 40 bytes) ⌝ }
+{
+    let mut i = 40;
+    while i < 96 {
+        if bytes[i] != 0 {
+            return false;
+        }
+        i += 1;
+    }
+    true
+}
+
+pub fn shape_holds(bytes: [u8; 96]) -> bool
+    ensures { λ r. ⌜ r ≡ shapeHolds bytes ⌝ }
+{
+    let zero = is_zero_behind(bytes);
+    (bytes[8] <= 1) & (bytes[17] <= 1) & (bytes[29] <= 1) & zero
+}
+
+// Internal: the number's four bytes, put from place i on.
+fn put_four(bytes: [u8; 96], i: usize, n: u32) -> [u8; 96]
+    requires { ⌜ i + 4 ≤ 96 ⌝ }
+    ensures { λ r. ⌜ r ≡ put i (bytesOf n) bytes ⌝ }
+{
+    let mut b = bytes;
+    b[i] = (n / 16777216 % 256) as u8;
+    b[i + 1] = (n / 65536 % 256) as u8;
+    b[i + 2] = (n / 256 % 256) as u8;
+    b[i + 3] = (n % 256) as u8;
+    b
+}
+
+// Internal: eight bytes, put from place i on.
+fn put_eight(bytes: [u8; 96], i: usize, eight: [u8; 8]) -> [u8; 96]
+    requires { ⌜ i + 8 ≤ 96 ⌝ }
+    ensures same { λ r. ⌜ r ≡ put i eight bytes ⌝ }
+    ensures sized { λ _. ⌜ length eight ≡ 8 ⌝ }
+{
+    let mut b = bytes;
+    b[i] = eight[0];
+    b[i + 1] = eight[1];
+    b[i + 2] = eight[2];
+    b[i + 3] = eight[3];
+    b[i + 4] = eight[4];
+    b[i + 5] = eight[5];
+    b[i + 6] = eight[6];
+    b[i + 7] = eight[7];
+    b
+}
+
+// The bytes of a state.
+pub fn pack(state: State) -> [u8; 96]
+    ensures { λ r. ⌜ r ≡ stateBytes state ⌝ }
+{
+    let mut b = [0; 96];
+    b[0] = state.who.address;
+    b = put_four(b, 1, state.who.groups);
+    b[5] = state.registers.dtr0;
+    b[6] = state.registers.dtr1;
+    b[7] = state.registers.dtr2;
+    b[8] = flag(state.waiting.held);
+    b = put_four(b, 9, state.waiting.frame);
+    b = put_four(b, 13, state.waiting.clock);
+    let staged = state.door.staged;
+    b[17] = flag(state.door.enabled);
+    b[18] = staged.count;
+    b[19] = staged.bank;
+    b[20] = staged.first;
+    let staged_bytes = staged.bytes;
+    b = put_eight(b, 21, staged_bytes);
+    let latch = state.latch;
+    b[29] = flag(latch.held);
+    b[30] = latch.bank;
+    b[31] = latch.first;
+    let latched_bytes = latch.bytes;
+    put_eight(b, 32, latched_bytes)
+}
