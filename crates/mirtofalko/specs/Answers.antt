@@ -3,12 +3,12 @@
 use Prim.Native.Nat.{ℕ, _+_, _*_, _^_, _≤_}
 use mathlib.Core.Bool.{Bool, false, _&&_}
 use lib.Dec.{leb}
-use Rattle.banks.specs.declared.looked.Looked.{Looked}
 use Rattle.frames.specs.Write.{writeOf}
 use Rattle.frames.specs.declared.message.Reading.{Reading}
 use Rattle.frames.specs.declared.message.Source.{Source}
 use Rattle.frames.specs.declared.message.Writing.{Writing}
-use Rattle.unit.specs.declared.state.Reply.{Reply}
+use Rattle.banks.specs.declared.looked.Looked.{Looked}
+use Rattle.rooms.specs.declared.reply.Reply.{Reply}
 use Rattle.mirtofalko.specs.StateBytes.{flag}
 
 -- a refusal: the number, and no answer

@@ -9,20 +9,20 @@ use lib.ListN.{length, getD, replicate}
 use Rattle.laws.specs.Bits.{bits}
 use Rattle.laws.specs.Numbers.{Test, test}
 use Rattle.laws.specs.Settled.{Settles}
-use Rattle.banks.specs.Map.{recordsOf}
-use Rattle.banks.specs.Rules.{checkTests, checkNumber}
-use Rattle.banks.specs.Look.{lookOf}
-use Rattle.banks.specs.declared.looked.Looked.{Looked}
 use Rattle.frames.specs.Values.{writingWord}
 use Rattle.frames.specs.Read.{readOf}
 use Rattle.frames.specs.Word.{wordOf, messageOf}
 use Rattle.frames.specs.Compose.{composeOf, composePowerOf}
 use Rattle.frames.specs.declared.message.Source.{Source}
-use Rattle.unit.specs.Rules.{stateHolds}
+use Rattle.banks.specs.Map.{recordsOf}
+use Rattle.banks.specs.Rules.{checkTests, checkNumber}
+use Rattle.banks.specs.Look.{lookOf}
+use Rattle.banks.specs.declared.looked.Looked.{Looked}
+use Rattle.rooms.specs.Rules.{stateHolds}
+use Rattle.rooms.specs.declared.reply.Reply.{Reply}
+use Rattle.rooms.specs.declared.state.State.{State}
 use Rattle.unit.specs.Step.{startTests}
 use Rattle.unit.specs.Promises.{GivenBy}
-use Rattle.unit.specs.declared.state.Reply.{Reply}
-use Rattle.unit.specs.declared.state.State.{State}
 use Rattle.mirtofalko.specs.StateBytes.{flag, stateBytes, stateOf, shapeHolds}
 use Rattle.mirtofalko.specs.Answers.{replyWord, lookWord, writtenOf}
 use Rattle.mirtofalko.specs.Face.{Faced, frameFace, powerOnFace, startFace, Faces}

@@ -5,7 +5,7 @@ ghost use Rattle.mirtofalko.specs.Answers.{refusal, replyWord, lookWord}
 use banks::Looked;
 use crate::state_bytes::flag;
 use frames::Writing;
-use unit::Reply;
+use rooms::Reply;
 
 pub fn reply_word(reply: Reply) -> u32
     ensures { λ r. ⌜ r ≡ replyWord reply ⌝ }

@@ -11,9 +11,9 @@ use hearing::Waiting;
 use hearing::Who;
 use memory::Latch;
 use memory::Staged;
-use unit::Door;
-use unit::Registers;
-use unit::State;
+use rooms::Door;
+use rooms::Registers;
+use rooms::State;
 
 pub fn flag(b: bool) -> u8
     ensures { λ r. ⌜ r ≡ flag b ⌝ }

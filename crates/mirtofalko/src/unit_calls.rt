@@ -4,12 +4,11 @@ ghost use mathlib.Core.Bool.{false};
 ghost use lib.ListN.{length};
 ghost use Rattle.banks.specs.Rules.{checkNumber};
 ghost use Rattle.banks.specs.Look.{lookOf};
-ghost use Rattle.unit.specs.Rules.{addressHolds};
+ghost use Rattle.rooms.specs.Rules.{addressHolds};
 ghost use Rattle.tracing.specs.Entry.{entries};
 ghost use Rattle.tracing.specs.Run.{roomFor};
 ghost use Rattle.mirtofalko.specs.Answers.{lookWord};
-ghost use Rattle.mirtofalko.specs.Face.{shapeNumber, startFace, frameFace, powerOnFace, Faces};
-ghost use Rattle.mirtofalko.specs.Face.{runFace, RunFaces};
+ghost use Rattle.mirtofalko.specs.Face.{shapeNumber, startFace, frameFace, powerOnFace, Faces, runFace, RunFaces};
 use crate::answers::look_word;
 use crate::answers::refusal_word;
 use crate::answers::reply_word;
@@ -18,7 +17,7 @@ use crate::state_bytes::shape_holds;
 use crate::state_bytes::unpack;
 use hearing::Heard;
 use hearing::Who;
-use unit::State;
+use rooms::State;
 
 // The number of map, store and reset image: 7 to 11, or 0.
 #[no_mangle]

@@ -6,7 +6,8 @@ ghost use lib.ListN.{length};
 ghost use Rattle.laws.specs.Choice.{if_then_else_};
 ghost use Rattle.laws.specs.Outcome.{Gives};
 ghost use Rattle.laws.specs.Parts.{put};
-ghost use Rattle.unit.specs.Step.{refusing, powerNumber};
+ghost use Rattle.rooms.specs.Reply.{refusing};
+ghost use Rattle.unit.specs.Step.{powerNumber};
 ghost use Rattle.unit.specs.Run.{outputOf};
 ghost use Rattle.tracing.specs.Entry.{entries, isFramed};
 ghost use Rattle.tracing.specs.Trace.{tracedOf};
@@ -14,9 +15,9 @@ ghost use Rattle.tracing.specs.Run.{turnOf, Begins, Turns, roomFor, Runs
 use crate::entry::Entry;
 use crate::entry::entry_at;
 use crate::entry::is_broken;
-use unit::Reply;
-use unit::State;
-use unit::Stepped;
+use rooms::Reply;
+use rooms::State;
+use rooms::Stepped;
 
 // How far a run has come: the state, the records answered, and whether 13 ended it.
 pub struct Ran {

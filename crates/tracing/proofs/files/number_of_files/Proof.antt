@@ -10,7 +10,7 @@ use Rattle.tracing.proofs.files.number_of_files.Reads as reads
 use Rattle.tracing.proofs.files.number_of_files.Lts as lts
 use Rattle.banks.proofs.check.Reads as check-reads
 use Rattle.tracing.proofs.files.who_of.Reads as who-of-reads
-use Rattle.unit.proofs.address_holds.Reads as address-holds-reads
+use Rattle.rooms.proofs.address_holds.Reads as address-holds-reads
 
 -- src/files.rt:35:9
 check-requires : tie.Need-check-requires

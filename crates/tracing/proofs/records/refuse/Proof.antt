@@ -1,7 +1,7 @@
 -- `tracing::records::refuse` meets its contract.
 -- Assumes nothing.
 use mathlib.Core.Path.{refl}
-use Rattle.unit.specs.Step.{refusing}
+use Rattle.rooms.specs.Reply.{refusing}
 use Rattle.tracing.proofs.records.refuse.Statement.{statement}
 use Rattle.tracing.proofs.records.refuse.Tie as tie
 

@@ -2,17 +2,17 @@
 -- Assumes nothing.
 use mathlib.Core.Path.{refl}
 use denote.Ref.{now}
-use Rattle.unit.specs.Step.{refusing}
+use Rattle.rooms.specs.Reply.{refusing}
 use Rattle.tracing.specs.Run.{turnOf}
 use Rattle.tracing.proofs.Checks.{turn-refused, stands-there, turn-hears, turn-powers}
 use borrow.Author.Needs.{needs}
+use Rattle.unit.proofs.frame_step.Reads as frame-step-reads
+use Rattle.unit.proofs.power_step.Reads as power-step-reads
 use Rattle.tracing.proofs.records.step_entry.Statement.{statement}
 use Rattle.tracing.proofs.records.step_entry.Tie as tie
 use Rattle.tracing.proofs.records.step_entry.Reads as reads
 use Rattle.tracing.proofs.records.step_entry.Lts as lts
 use Rattle.tracing.proofs.records.refuse.Reads as refuse-reads
-use Rattle.unit.proofs.frame_step.Reads as frame-step-reads
-use Rattle.unit.proofs.power_step.Reads as power-step-reads
 
 -- src/run.rt:72:22
 enum-known-entry : tie.Need-enum-known-entry
