@@ -22,3 +22,4 @@ pub use rules::banks_hold;
 pub use rules::check;
 pub use rules::check_number;
 pub use rules::head_bytes_hold;
+pub use rules::is_lock;
