@@ -1,15 +1,11 @@
 -- What may be due, and what is then known of the command: the one walk over the listed commands, for any statement.
 -- Assumes nothing.
-use Prim.Native.Nat.{ℕ, _<_}
-use mathlib.Core.Path.{_≡_, refl, ap}
-use mathlib.Core.Logic.{⊎-elim}
+use Prim.Native.Nat.{ℕ}
+use mathlib.Core.Path.{_≡_, refl, sym, ap, _∙_}
 use mathlib.Core.Bool.{Bool, true, false, _&&_, _||_}
 use mathlib.Core.List.{List}
-use native.Mathlib.Omega.{arith}
-use borrow.Author.Tests.{ltb-true, le-leb}
-use lib.Dec.{eqb, ltb, leb}
+use lib.Dec.{eqb, ltb, leb·suc-suc}
 use Rattle.laws.proofs.Tests.{if-by, both, clash}
-use Rattle.laws.proofs.Sides.{either, or-left, or-right}
 use Rattle.banks.specs.Map.{mapped}
 use Rattle.banks.specs.declared.record.Record.{Record}
 use Rattle.hearing.specs.Meaning.{meaningOf, closes}
@@ -28,13 +24,9 @@ use Rattle.rooms.specs.declared.due.Due.{Due}
 use Rattle.rooms.specs.declared.due.Due.the-variants.{Nothing, Waits, Opens, Resets, Becomes, Loads, Answers}
 use Rattle.rooms.specs.declared.due.Due.the-variants.{Writes, Reads}
 
--- SET SHORT ADDRESS takes only an address
-short-holds : (dtr0 : ℕ) → (ltb dtr0 0x40 || eqb dtr0 255) ≡ true → addressHolds dtr0 ≡ true
-short-holds dtr0 e =
-    ⊎-elim
-    (λ t. let l : dtr0 < 64 = ltb-true dtr0 0x40 t in or-left (leb dtr0 63) _ (le-leb dtr0 63 (omega arith)))
-    (λ t. or-right (leb dtr0 63) _ t)
-    (either (ltb dtr0 0x40) (eqb dtr0 255) e)
+-- SET SHORT ADDRESS takes exactly what may be an address
+pub short-same : (dtr0 : ℕ) → (ltb dtr0 0x40 || eqb dtr0 255) ≡ addressHolds dtr0
+short-same dtr0 = ap (λ below. below || eqb dtr0 255) (leb·suc-suc dtr0 _)
 
 module _ (rs : List Record) (s : State) (heard : Heard) where
   -- a statement about whether the frame closes write-enable and what is due, case by case
@@ -81,7 +73,7 @@ module _ (rs : List Record) (s : State) (heard : Heard) where
     paired Twice.ResetMemoryBank = c .resets (s .registers .dtr0)
     paired Twice.SetShortAddress =
         if-by (P true) (ltb (s .registers .dtr0) 0x40 || eqb (s .registers .dtr0) 255)
-        (λ e. c .becomes _ (λ a. short-holds (s .registers .dtr0) e)) (λ e. c .nothing true)
+        (λ e. c .becomes _ (λ a. sym (short-same (s .registers .dtr0)) ∙ e)) (λ e. c .nothing true)
     paired Twice.EnableWriteMemory = c .opens
     paired (Twice.AddToDeviceGroups half) = c .becomes _ (λ a. a)
     paired (Twice.RemoveFromDeviceGroups half) = c .becomes _ (λ a. a)

@@ -1,13 +1,12 @@
 -- A powered-on state, and what SET SHORT ADDRESS takes.
 -- Assumes nothing.
 use mathlib.Core.Path.{refl, ap}
-use mathlib.Core.Bool.{_||_}
-use lib.Dec.{eqb, leb·suc-suc}
 use Rattle.laws.specs.Choice.{if_then_else_}
 use Rattle.rooms.specs.State.{poweredOn}
 use Rattle.rooms.specs.Due.{shortDue}
 use Rattle.rooms.specs.Promises.{PoweredOn, ShortTakesAddress}
 use Rattle.rooms.specs.declared.due.Due.the-variants.{Nothing, Becomes}
+use Rattle.rooms.proofs.Dues.{short-same}
 
 pub powered-on : PoweredOn
 unfolding poweredOn
@@ -26,5 +25,4 @@ powered-on who =
 pub short-takes-address : ShortTakesAddress
 unfolding shortDue
 short-takes-address who dtr0 =
-    ap (λ below. if below || eqb dtr0 255 then Becomes (record { address = dtr0; groups = who .groups }) else Nothing)
-    (leb·suc-suc dtr0 _)
+    ap (λ taken. if taken then Becomes (record { address = dtr0; groups = who .groups }) else Nothing) (short-same dtr0)

@@ -24,5 +24,13 @@ pair-due-spec =
     (λ c. rw (c .enum-told .given .1))
     (λ c. rw (c .before .enum-told2 .given .1) (c .short-due .ensures))
     (λ c. rw (c .enum-told3 .given .1))
-    (λ c. rw (c .before .before .before .before .twice .given .1) (cc))
-    (λ c. rw (c .before .before .before .before .twice2 .given .1) (cc)))
+    (λ c. rw (
+      c .before .before .before .before .twice .given .1,
+      ← c .before .before .group-word .ensures,
+      ← c .in-groups .ensures,
+    ))
+    (λ c. rw (
+      c .before .before .before .before .twice2 .given .1,
+      ← c .before .before .group-word2 .ensures,
+      ← c .in-groups2 .ensures,
+    )))

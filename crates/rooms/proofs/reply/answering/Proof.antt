@@ -9,4 +9,4 @@ pub answering-spec : {M : Type 1} → statement M
 unfolding answering
 answering-spec = tie.close (tie.spec
     (λ c κs. search needs)
-    (λ c. cc))
+    (λ c. rw (c .accepted .ensures)))

@@ -15,4 +15,9 @@ state-holds-spec =
     (λ c κs. search needs)
     (λ c κs. search needs)
     (λ c κs. placed-ordered _ _ (c .before .before .before .before .before .before .pre))
-    (λ c. cc))
+    (λ c. rw (
+      ← c .before .before .before .address-holds .ensures,
+      ← c .before .before .waiting-holds .ensures,
+      ← c .before .door-holds .ensures,
+      ← c .latch-holds .ensures,
+    )))

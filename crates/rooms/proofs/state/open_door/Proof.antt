@@ -7,4 +7,4 @@ use Rattle.rooms.proofs.state.open_door.Tie as tie
 pub open-door-spec : {M : Type 1} → statement M
 open-door-spec = tie.close (tie.spec
     (λ c κs. search needs)
-    (λ c. cc))
+    (λ c. rw (c .none-staged .ensures)))

@@ -12,4 +12,4 @@ powered-on-spec =
     (λ c κs. search needs)
     (λ c κs. search needs)
     (λ c κs. search needs)
-    (λ c. cc))
+    (λ c. rw (c .before .before .none-waits .ensures, c .before .shut-door .ensures, c .none-latched .ensures)))

@@ -7,4 +7,4 @@ use Rattle.rooms.proofs.state.shut_door.Tie as tie
 pub shut-door-spec : {M : Type 1} → statement M
 shut-door-spec = tie.close (tie.spec
     (λ c κs. search needs)
-    (λ c. cc))
+    (λ c. rw (c .none-staged .ensures)))
