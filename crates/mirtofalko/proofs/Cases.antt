@@ -2,7 +2,6 @@
 -- Assumes nothing.
 use mathlib.Core.Path.{refl}
 use lib.Count.{trailingZeros}
-use Rattle.banks.specs.Look.{lookNumber, lookOf}
 use Rattle.frames.specs.Values.{addressAt, schemeAt, fieldAt}
 use Rattle.frames.specs.Write.{bytesFrame, eventFits, eventFrame, powerFrame, writeOf}
 use Rattle.frames.specs.Compose.{orMissing, sourceFits, shippedOf, orBlank, lowestGroup, eventBy, composeOf, powerFits, composePowerOf}
@@ -13,6 +12,7 @@ use Rattle.mirtofalko.specs.StateBytes.{bytesOf, stateBytes, fourAt, sta
 use Rattle.mirtofalko.specs.Answers.{replyWord, lookWord}
 use Rattle.mirtofalko.specs.Face.{shapeNumber, startFace, frameFace, powerOnFace}
 use Rattle.mirtofalko.specs.Cases.{Cases}
+use Rattle.looks.specs.Look.{lookNumber, lookOf}
 
 unfoldable words : Unit {0}
 unfolding lookNumber lookOf trailingZeros addressAt schemeAt fieldAt bytesFrame eventFits eventFrame powerFrame writeOf orMissing sourceFits shippedOf

@@ -7,9 +7,9 @@ use Rattle.frames.specs.Write.{writeOf}
 use Rattle.frames.specs.declared.message.Reading.{Reading}
 use Rattle.frames.specs.declared.message.Source.{Source}
 use Rattle.frames.specs.declared.message.Writing.{Writing}
-use Rattle.banks.specs.declared.looked.Looked.{Looked}
 use Rattle.rooms.specs.declared.reply.Reply.{Reply}
 use Rattle.mirtofalko.specs.StateBytes.{flag}
+use Rattle.looks.specs.declared.looked.Looked.{Looked}
 
 -- a refusal: the number, and no answer
 abbrev pub refusal : ℕ → Reply

@@ -4,7 +4,6 @@ use Prim.Native.Nat.{ℕ}
 use mathlib.Core.Path.{_≡_}
 use mathlib.Core.List.{List, [], _∷_, _++_}
 use lib.ListN.{replicate}
-use Rattle.banks.specs.Look.{lookOf}
 use Rattle.frames.specs.Values.{writingWord}
 use Rattle.frames.specs.Read.{readOf}
 use Rattle.frames.specs.Word.{wordOf, messageOf}
@@ -13,6 +12,7 @@ use Rattle.hearing.specs.declared.rooms.Heard.{Heard}
 use Rattle.unit.specs.Bench.{benchMap, benchStore, benchImage}
 use Rattle.mirtofalko.specs.Answers.{replyWord, lookWord, writtenOf, source}
 use Rattle.mirtofalko.specs.Face.{Faced, startFace, frameFace, powerOnFace}
+use Rattle.looks.specs.Look.{lookOf}
 
 -- address 5, no groups
 abbrev pub started : Faced

@@ -16,8 +16,6 @@ use Rattle.frames.specs.Compose.{composeOf, composePowerOf}
 use Rattle.frames.specs.declared.message.Source.{Source}
 use Rattle.banks.specs.Map.{recordsOf}
 use Rattle.banks.specs.Rules.{checkTests, checkNumber}
-use Rattle.banks.specs.Look.{lookOf}
-use Rattle.banks.specs.declared.looked.Looked.{Looked}
 use Rattle.rooms.specs.Rules.{stateHolds}
 use Rattle.rooms.specs.declared.reply.Reply.{Reply}
 use Rattle.rooms.specs.declared.state.State.{State}
@@ -26,6 +24,8 @@ use Rattle.unit.specs.Promises.{GivenBy}
 use Rattle.mirtofalko.specs.StateBytes.{flag, stateBytes, stateOf, shapeHolds}
 use Rattle.mirtofalko.specs.Answers.{replyWord, lookWord, writtenOf}
 use Rattle.mirtofalko.specs.Face.{Faced, frameFace, powerOnFace, startFace, Faces}
+use Rattle.looks.specs.Look.{lookOf}
+use Rattle.looks.specs.declared.looked.Looked.{Looked}
 
 -- ---- a state as 96 bytes
 

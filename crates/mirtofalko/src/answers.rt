@@ -2,7 +2,7 @@
 ghost use mathlib.Core.Path.{_≡_};
 ghost use Rattle.frames.specs.Values.{writingWord};
 ghost use Rattle.mirtofalko.specs.Answers.{refusal, replyWord, lookWord};
-use banks::Looked;
+use looks::Looked;
 use crate::state_bytes::flag;
 use frames::Writing;
 use rooms::Reply;

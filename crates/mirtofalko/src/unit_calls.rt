@@ -3,12 +3,12 @@ ghost use mathlib.Core.Path.{_≡_};
 ghost use mathlib.Core.Bool.{false};
 ghost use lib.ListN.{length};
 ghost use Rattle.banks.specs.Rules.{checkNumber};
-ghost use Rattle.banks.specs.Look.{lookOf};
 ghost use Rattle.rooms.specs.Rules.{addressHolds};
 ghost use Rattle.tracing.specs.Entry.{entries};
 ghost use Rattle.tracing.specs.Run.{roomFor};
 ghost use Rattle.mirtofalko.specs.Answers.{lookWord};
 ghost use Rattle.mirtofalko.specs.Face.{shapeNumber, startFace, frameFace, powerOnFace, Faces, runFace, RunFaces};
+ghost use Rattle.looks.specs.Look.{lookOf};
 use crate::answers::look_word;
 use crate::answers::refusal_word;
 use crate::answers::reply_word;
@@ -32,7 +32,7 @@ pub extern "C" fn mf_check(map: &[u8], store: &[u8], image: &[u8]) -> u32
 pub extern "C" fn mf_look(map: &[u8], store: &[u8], bank: u8, location: u8) -> u32
     ensures { λ r. ⌜ r ≡ lookWord (lookOf (now (map .entry)) (now (store .entry)) bank location) ⌝ }
 {
-    look_word(banks::look_at(map, store, bank, location))
+    look_word(looks::look_at(map, store, bank, location))
 }
 
 // The number for bytes that are no state's: 7 to 11, then 12.

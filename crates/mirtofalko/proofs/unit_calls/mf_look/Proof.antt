@@ -4,8 +4,8 @@ use Rattle.mirtofalko.proofs.unit_calls.mf_look.Statement.{statement}
 use Rattle.mirtofalko.proofs.unit_calls.mf_look.Tie as tie
 use Rattle.mirtofalko.proofs.unit_calls.mf_look.Reads as reads
 use Rattle.mirtofalko.proofs.unit_calls.mf_look.Lts as lts
-use Rattle.banks.proofs.look_at.Reads as look-at-reads
 use Rattle.mirtofalko.proofs.answers.look_word.Reads as look-word-reads
+use Rattle.looks.proofs.look_at.Reads as look-at-reads
 
 -- src/unit_calls.rt:30:15
 look-at-requires : tie.Need-look-at-requires

@@ -1,11 +1,11 @@
--- `banks::looked::look_at` meets its contract.
+-- `looks::looked::look_at` meets its contract.
 -- Assumes nothing.
 use mathlib.Core.Path.{sym, _∙_}
 use Rattle.banks.specs.Lookup.{beginner}
 use Rattle.banks.proofs.Standing.{stands}
-use Rattle.banks.proofs.Looks.{look-refused, look-sound}
-use Rattle.banks.proofs.looked.look_at.Statement.{statement}
-use Rattle.banks.proofs.looked.look_at.Tie as tie
+use Rattle.looks.proofs.Looks.{look-refused, look-sound}
+use Rattle.looks.proofs.looked.look_at.Statement.{statement}
+use Rattle.looks.proofs.looked.look_at.Tie as tie
 
 returns : tie.Need-returns
 returns c =

@@ -16,20 +16,20 @@ use Rattle.laws.proofs.Numbers.{exactly-if}
 use Rattle.laws.proofs.Parts.{length-part}
 use Rattle.laws.proofs.Settled.{settles}
 use Rattle.laws.proofs.Joined.{joined-none, joined-some}
 use Rattle.banks.specs.Map.{recordsOf}
 use Rattle.banks.specs.Rules.{checkTests, checkNumber, ordered}
 use Rattle.banks.specs.Lookup.{beginner, valueOf}
-use Rattle.banks.specs.Look.{isFound, lookTests, lookNumber, refusedLook, placeOf, lookOf, lookBytes}
-use Rattle.banks.specs.Facts.{Member, Shows}
-use Rattle.banks.specs.Promises.{LookNumbers, LookStands, LookShows, LookEmpty}
-use Rattle.banks.specs.Promises.{LookAtSettled, LookNumberSettled, LookSettled}
+use Rattle.banks.specs.Facts.{Member}
 use Rattle.banks.specs.declared.record.Record.{Record}
 use Rattle.banks.specs.declared.holder.Found.{Found}
 use Rattle.banks.specs.declared.holder.Found.the-variants.{At, Nothing}
-use Rattle.banks.specs.declared.looked.Looked.{Looked}
 use Rattle.banks.proofs.Members.{member-fields, member-inside}
 use Rattle.banks.proofs.Locations.{holds-is, holder-at, holder-within, beginner-at, first-found}
 use Rattle.banks.proofs.Standing.{stands, is-standing}
+use Rattle.looks.specs.Look.{isFound, lookTests, lookNumber, refusedLook, placeOf, lookOf, lookBytes}
+use Rattle.looks.specs.Promises.{Shows, LookNumbers, LookStands, LookShows, LookEmpty}
+use Rattle.looks.specs.Promises.{LookAtSettled, LookNumberSettled, LookSettled}
+use Rattle.looks.specs.declared.looked.Looked.{Looked}
 
 -- a number and a place, as one
 placed-or-14 : (f : Found) (n : ℕ) → n ≡ (if isFound f then 0 else 14)

@@ -1,9 +1,9 @@
--- `banks::looked::look` meets its contract.
+-- `looks::looked::look` meets its contract.
 -- Assumes nothing.
-use Rattle.banks.proofs.Looks.{look-inside, look-part}
+use Rattle.looks.proofs.Looks.{look-inside, look-part}
 use borrow.Author.Needs.{needs}
-use Rattle.banks.proofs.looked.look.Statement.{statement}
-use Rattle.banks.proofs.looked.look.Tie as tie
+use Rattle.looks.proofs.looked.look.Statement.{statement}
+use Rattle.looks.proofs.looked.look.Tie as tie
 
 pub look-spec : {M : Type 1} → statement M
 look-spec =

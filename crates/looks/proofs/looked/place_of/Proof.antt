@@ -1,11 +1,11 @@
--- `banks::looked::place_of` meets its contract.
+-- `looks::looked::place_of` meets its contract.
 -- Assumes nothing.
 use mathlib.Core.Logic.{⊎-elim}
 use borrow.Author.Tests.{eq-eqb, ne-eqb}
 use Rattle.banks.specs.Lookup.{ifFirst}
 use borrow.Author.Needs.{needs}
-use Rattle.banks.proofs.looked.place_of.Statement.{statement}
-use Rattle.banks.proofs.looked.place_of.Tie as tie
+use Rattle.looks.proofs.looked.place_of.Statement.{statement}
+use Rattle.looks.proofs.looked.place_of.Tie as tie
 
 returns-2 : tie.Need-returns-2
 unfolding ifFirst
