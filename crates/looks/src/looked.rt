@@ -4,8 +4,8 @@ ghost use mathlib.Core.Path.{_≡_};
 ghost use Rattle.banks.specs.Lookup.{ifFirst};
 ghost use Rattle.looks.specs.Look.{lookNumber, refusedLook, placeOf, lookOf, lookBytes};
 use banks::Found;
-use banks::lookup;
 use banks::check_number;
+use banks::lookup;
 
 // The number of a look, and the place of the value; a refusal has no place.
 pub struct Looked {
