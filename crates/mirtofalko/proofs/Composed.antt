@@ -60,20 +60,25 @@ module _ (sort number primary short information scheme : ℕ) where
   all-held : Held sort number primary short information scheme →
       fieldsHeld sort number primary short information scheme ≡ true
   all-held h =
-      rw (le-leb sort 255 (h .low-sort), le-leb number 255 (h .low-number), le-leb primary 255 (h .low-primary),
-        le-leb short 255 (h .low-short), le-leb scheme 255 (h .low-scheme),
-        le-leb information 65535 (h .low-information))
+      rw (
+        le-leb sort 255 (h .low-sort),
+        le-leb number 255 (h .low-number),
+        le-leb primary 255 (h .low-primary),
+        le-leb short 255 (h .low-short),
+        le-leb scheme 255 (h .low-scheme),
+        le-leb information 65535 (h .low-information),
+      )
 
   pub not-held : (groups : ℕ) → fieldsHeld sort number primary short information scheme ≡ false →
       composeOf (source sort number primary short groups information scheme) ≡ Writing.Refused 6
   unfolding composeOf
   not-held groups f =
       if-by (λ w. w ≡ Writing.Refused 6) (sourceFits (source sort number primary short groups information scheme))
-        (λ t. clash _ (all-held (fits-held _ t)) f) (λ t. refl)
+      (λ t. clash _ (all-held (fits-held _ t)) f) (λ t. refl)
 
 pub power-not-held : (short groups : ℕ) → 255 < short → composePowerOf short groups ≡ Writing.Refused 6
 unfolding composePowerOf powerFits
 power-not-held short groups h =
     if-by (λ w. w ≡ Writing.Refused 6) (powerFits short groups)
-      (λ f. absurd (omega (arith, below short 64 (omega arith) (both (ltb groups (2 ^ 32)) (orMissing short 64) f .1))))
-      (λ f. refl)
+    (λ f. absurd (omega (arith, below short 64 (omega arith) (both (ltb groups (2 ^ 32)) (orMissing short 64) f .1))))
+    (λ f. refl)

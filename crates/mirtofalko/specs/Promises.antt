@@ -29,8 +29,8 @@ use Rattle.mirtofalko.specs.Face.{Faced, frameFace, powerOnFace, startFa
 
 -- ---- a state as 96 bytes
 
--- what the types of a state can hold: the groups, the waiting frame and its clock have 32 bits, and there are eight staged
--- and eight latched bytes
+-- what the types of a state can hold: the groups, the waiting frame and its clock have 32 bits, and there are eight
+-- staged and eight latched bytes
 pub record StateHeld (s : State) : Type 0 where
   pub groups : s .who .groups < 2 ^ 32
   pub frame : s .waiting .frame < 2 ^ 32
@@ -90,10 +90,10 @@ powerOnTests map store kept bytes = checkTests map store kept ++ test 12 (bytesH
 pub record Numbered (map store image : List ℕ) : Type 0 where
   pub start : (address groups : ℕ) →
       GivenBy (startFace map store image address groups .reply .number)
-        (startTests map store (length image) (record { address = address; groups = groups }))
+      (startTests map store (length image) (record { address = address; groups = groups }))
   pub frame : (bytes : List ℕ) (frame clock : ℕ) →
       GivenBy (frameFace map store image bytes frame clock .reply .number)
-        (frameTests map store (length image) bytes frame)
+      (frameTests map store (length image) bytes frame)
   pub power-on : (bytes : List ℕ) →
       GivenBy (powerOnFace map store image bytes .reply .number) (powerOnTests map store (length image) bytes)
 

@@ -2,8 +2,8 @@
 ghost use mathlib.Core.Path.{_≡_};
 ghost use Rattle.frames.specs.Values.{writingWord};
 ghost use Rattle.mirtofalko.specs.Answers.{refusal, replyWord, lookWord};
-use banks::Looked;
 use crate::state_bytes::flag;
+use banks::Looked;
 use frames::Writing;
 use unit::Reply;
 

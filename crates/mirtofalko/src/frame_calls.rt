@@ -35,7 +35,11 @@ fn is_held(sort: u32, number: u32, primary: u32, short: u32, information: u32, s
     ensures same { λ r. ⌜ r ≡ fieldsHeld sort number primary short information scheme ⌝ }
     ensures facts { λ r. ⌜ (r ≡ true → Held sort number primary short information scheme) ⌝ }
 {
-    let bytes = (sort <= 255) & (number <= 255) & (primary <= 255) & (short <= 255) & (scheme <= 255);
+    let bytes = (sort <= 255)
+        & (number <= 255)
+        & (primary <= 255)
+        & (short <= 255)
+        & (scheme <= 255);
     bytes & (information <= 65535)
 }
 

@@ -97,7 +97,12 @@ pub extern "C" fn mf_frame(
 
 // A later power-on.
 #[no_mangle]
-pub extern "C" fn mf_power_on(map: &[u8], store: &mut [u8], image: &[u8], state: &mut [u8; 96]) -> u32
+pub extern "C" fn mf_power_on(
+    map: &[u8],
+    store: &mut [u8],
+    image: &[u8],
+    state: &mut [u8; 96],
+) -> u32
     ensures { λ r. ⌜ Faces r (now (state .exit)) (now (store .exit)) (powerOnFace (now (map .entry)) (now (store .entry)) (now (image .entry)) (now (state .entry))) ⌝ }
 {
     let bytes = *state;
@@ -109,7 +114,6 @@ pub extern "C" fn mf_power_on(map: &[u8], store: &mut [u8], image: &[u8], state:
     *state = after;
     reply_word(stepped.reply)
 }
-
 
 // A state that breaks the rule of the address.
 fn unfit(state: State) -> State

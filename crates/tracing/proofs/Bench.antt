@@ -13,7 +13,8 @@ use Rattle.banks.specs.Rules.{checkNumber}
 use Rattle.frames.specs.Bench.{Case}
 use Rattle.frames.specs.Bench.{sheet as framesSheet}
 use Rattle.unit.specs.Run.{runOf}
-use Rattle.unit.specs.Bench.{benchMap, benchStore, benchImage, benchWho, Line, says, Runs, Hold, p11, p12, late, overrun}
+use Rattle.unit.specs.Bench.{benchMap, benchStore, benchImage, benchWho, p11, p12, late, overrun}
+use Rattle.unit.specs.Bench.{Line, says, Runs, Hold}
 use Rattle.unit.proofs.Bench.{sheet-holds}
 use Rattle.unit.proofs.Numbers.{calls-numbered, tests-in-order}
 use Rattle.tracing.specs.Entry.{entryOf, entryAt, wholeRecords}

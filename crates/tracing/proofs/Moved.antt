@@ -21,15 +21,15 @@ pub moved-more : (from : ℕ) (before after : List ℕ) (i : ℕ) → i < length
     → Moved from before after i → Moved from before (set after i (getD after (from + i) 0)) (i + 1)
 moved-more from before after i h k m =
     let same : getD after (from + i) 0 ≡ getD (drop from before) i 0 =
-      ap (λ (j : ℕ). getD after j 0) (add-comm from i) ∙ sym (getD-drop i after from 0)
-      ∙ ap (λ (l : List ℕ). getD l from 0) (m .behind) ∙ getD-drop i before from 0
-      ∙ ap (λ (j : ℕ). getD before j 0) (add-comm i from) ∙ sym (getD-drop from before i 0) in
+    ap (λ (j : ℕ). getD after j 0) (add-comm from i) ∙ sym (getD-drop i after from 0)
+    ∙ ap (λ (l : List ℕ). getD l from 0) (m .behind) ∙ getD-drop i before from 0
+    ∙ ap (λ (j : ℕ). getD before j 0) (add-comm i from) ∙ sym (getD-drop from before i 0) in
     let there : i < length (drop from before) = omega (arith, length-drop from before) in
     record {
       front =
-        rw (add-one i, take-suc-set after i (getD after (from + i) 0) h, m .front, same)
-        (sym (take-suc (drop from before) i 0 there));
+          rw (add-one i, take-suc-set after i (getD after (from + i) 0) h, m .front, same)
+          (sym (take-suc (drop from before) i 0 there));
       behind =
-        drop-set-lt (i + 1) after i (getD after (from + i) 0) (omega arith)
-        ∙ rw (← drop-drop 1 i after, ← drop-drop 1 i before, m .behind);
+          drop-set-lt (i + 1) after i (getD after (from + i) 0) (omega arith)
+          ∙ rw (← drop-drop 1 i after, ← drop-drop 1 i before, m .behind);
     }

@@ -7,13 +7,15 @@ use native.Mathlib.Omega.{arith}
 use lib.ListN.{length, length-append, length-drop}
 use Rattle.tracing.specs.Trace.{Traced}
 use Rattle.tracing.specs.Run.{Runs}
-use Rattle.tracing.specs.Promises.{Run-settled}
+use Rattle.tracing.specs.Promises.{RunSettled}
 use Rattle.tracing.specs.declared.records.Ran.{Ran}
 
-pub run-settled : Run-settled
-run-settled t before q r store stored output written p s =
-    (rw (p .state ∙ sym (s .state), p .ended ∙ sym (s .ended), p .count ∙ sym (s .count)), p .leaves ∙ sym (s .leaves),
-    p .writes ∙ sym (s .writes))
+pub run-settled : RunSettled
+run-settled t before q r store stored output written p s = (
+  rw (p .state ∙ sym (s .state), p .ended ∙ sym (s .ended), p .count ∙ sym (s .count)),
+  p .leaves ∙ sym (s .leaves),
+  p .writes ∙ sym (s .writes),
+)
 
 pub answers-within : (r : Ran) (store output before : List ℕ) (t : Traced) → Runs r store output before t
     → length output ≡ length before → 4 * r .count ≤ length output

@@ -45,7 +45,9 @@ pub record BenchTraces : Type 0 where
   pub unfinished : benchTrace benchAdr (p12Records ++ 0x00 ∷ [])
       ≡ p12Output ++ 13 ∷ 0 ∷ 0 ∷ 0 ∷ 0x06 ∷ 0x55 ∷ 0x00 ∷ 0x00 ∷ 0x00 ∷ 0x64 ∷ []
   -- P12, a record of kind 2 and P11's last: 13 ends the input
-  pub unknown : benchTrace benchAdr (p12Records ++ 0 ∷ 0 ∷ 0 ∷ 0 ∷ 2 ∷ 0 ∷ 0 ∷ 0 ∷ 0 ∷ 0 ∷ 3 ∷ 0x20 ∷ 0 ∷ 0xC1 ∷ 0x20 ∷ 0x2C ∷ [])
+  pub unknown :
+      benchTrace benchAdr
+      (p12Records ++ 0 ∷ 0 ∷ 0 ∷ 0 ∷ 2 ∷ 0 ∷ 0 ∷ 0 ∷ 0 ∷ 0 ∷ 3 ∷ 0x20 ∷ 0 ∷ 0xC1 ∷ 0x20 ∷ 0x2C ∷ [])
       ≡ p12Output ++ 13 ∷ 0 ∷ 0 ∷ 0 ∷ 0x06 ∷ 0x55 ∷ 0x00 ∷ 0x00 ∷ 0x00 ∷ 0x64 ∷ []
   -- a wrong length of unit.adr is 6, and its 4 bytes are all that is written
   pub short-adr : benchTrace (0x05 ∷ 0x00 ∷ 0x00 ∷ 0x00 ∷ []) p11Records ≡ 6 ∷ 0 ∷ 0 ∷ 0 ∷ []

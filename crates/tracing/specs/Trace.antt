@@ -49,7 +49,11 @@ tracedOf map image store s es =
 
 -- unit.adr: address, then 32 group bits, high byte first
 unfoldable pub whoOf : List ℕ → Who
-whoOf adr = record { address = getD adr 0 0; groups = fourBytes (getD adr 1 0) (getD adr 2 0) (getD adr 3 0) (getD adr 4 0) }
+whoOf adr =
+    record {
+      address = getD adr 0 0;
+      groups = fourBytes (getD adr 1 0) (getD adr 2 0) (getD adr 3 0) (getD adr 4 0);
+    }
 
 -- start's tests: 7 to 11, then 6, which a wrong length of unit.adr is too
 abbrev pub fileTests : List ℕ → List ℕ → ℕ → List ℕ → List Test
@@ -72,5 +76,5 @@ unfoldable pub traceOf : List ℕ → List ℕ → List ℕ → List ℕ → Lis
 traceOf map store image adr input =
     if eqb (fileNumber map store (length image) adr) 0
     then
-      closed (length input % 8) (tracedFrom (startOf map store image (whoOf adr)) map image (wholeRecords input))
+    closed (length input % 8) (tracedFrom (startOf map store image (whoOf adr)) map image (wholeRecords input))
     else fileNumber map store (length image) adr ∷ 0 ∷ 0 ∷ 0 ∷ []
