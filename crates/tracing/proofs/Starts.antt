@@ -13,7 +13,7 @@ use lib.ListN.{length, take}
 use lib.Seq.{take-all, length-take-le}
 use Rattle.laws.specs.Choice.{if_then_else_}
 use Rattle.laws.specs.Lists.{every}
-use Rattle.laws.specs.Numbers.{Test, test, firstFailing}
+use Rattle.laws.specs.Numbers.{test, firstFailing}
 use Rattle.laws.proofs.Joined.{joined-none, joined-some}
 use Rattle.laws.proofs.Numbers.{exactly-if, none-exactly-if}
 use Rattle.laws.proofs.Settled.{settles}
@@ -22,15 +22,11 @@ use Rattle.banks.specs.Rules.{sizeHolds, fieldsHold, rising, lengthsHold, place
 use Rattle.hearing.specs.declared.rooms.Who.{Who}
 use Rattle.unit.specs.Rules.{addressHolds}
 use Rattle.unit.specs.Step.{startNumber}
-use Rattle.tracing.specs.Trace.{whoOf, fileTests, fileNumber, traceOf}
+use Rattle.tracing.specs.Trace.{whoOf, adrTests, fileTests, fileNumber, traceOf}
 use Rattle.tracing.specs.Promises.{FilesNumbered, FilesSettled, OneByteMore}
 
 pub files-settled : FilesSettled
 files-settled map store kept adr = settles (fileNumber map store kept adr)
-
--- 6, behind 7 to 11
-abbrev behindChecks : List ℕ → List Test
-behindChecks adr = test 6 (eqb (length adr) 5 && addressHolds (whoOf adr .address)) ∷ []
 
 pub files-numbered : FilesNumbered
 unfolding fileNumber checkNumber startNumber firstFailing
@@ -41,8 +37,8 @@ files-numbered map store kept adr =
             exactly-if = exactly-if (fileTests map store kept adr);
             none-exactly-if = none-exactly-if (fileTests map store kept adr) refl;
           };
-      first = λ h. joined-some (checkTests map store kept) (behindChecks adr) (checkNumber map store kept) h refl;
-      last = λ z. joined-none (checkTests map store kept) (behindChecks adr) refl z;
+      first = λ h. joined-some (checkTests map store kept) (adrTests adr) (checkNumber map store kept) h refl;
+      last = λ z. joined-none (checkTests map store kept) (adrTests adr) refl z;
       start = λ e.
           ap
           (λ (b : Bool). firstFailing (checkTests map store kept ++ test 6 (b && addressHolds (whoOf adr .address)) ∷ []))

@@ -1,8 +1,8 @@
 -- What is proved of a trace: one run after the other, slices, how much is written, 13 and the tail, one check, the
--- numbers of the files. Paper 01, "The trace program". Proved in proofs/: Continued, Cutting,
--- Checks, Starts and Settled.
+-- numbers of the files. Paper 01, "The trace program". Proved in proofs/: Continued, Cutting, Moved, Checks, Starts and
+-- Settled.
 -- Assumes nothing.
-use Prim.Native.Nat.{ℕ, suc, _+_, _*_, _<_, _%_}
+use Prim.Native.Nat.{ℕ, suc, _+_, _-_, _*_, _<_, _≤_, _%_}
 use mathlib.Core.Path.{_≡_}
 use mathlib.Core.Bool.{Bool, true, false, _&&_}
 use mathlib.Core.List.{List, [], _∷_, _++_}
@@ -16,9 +16,10 @@ use Rattle.unit.specs.Rules.{addressHolds}
 use Rattle.unit.specs.Step.{powerNumber, startNumber, startOf}
 use Rattle.unit.specs.Promises.{GivenBy}
 use Rattle.unit.specs.declared.state.State.{State}
-use Rattle.tracing.specs.Entry.{entries, wholeRecords, isBroken, isFramed}
+use Rattle.tracing.specs.Entry.{entries, wholeRecords, isBroken, isFramed, Reads}
 use Rattle.tracing.specs.Trace.{Traced, tracedOf, broken, whoOf, fileTests, fileNumber, closed, traceOf}
 use Rattle.tracing.specs.Run.{turnOf, continued, Runs}
+use Rattle.tracing.specs.Slices.{Keeps}
 use Rattle.tracing.specs.declared.entry.Entry.{Entry}
 use Rattle.tracing.specs.declared.records.Ran.{Ran}
 
@@ -58,6 +59,15 @@ CutAnywhere = (map store image adr : List ℕ) (slices : List (List ℕ)) (rest 
     ≡ closed (length rest)
     (inSlices map image
     (begun (startOf map store image (whoOf adr) .store) (startOf map store image (whoOf adr) .answer .state)) slices)
+
+-- before what stays of a slice are whole records, and these with what stays are all that was read
+pub record Rest (kept : ℕ) (before after : List ℕ) (filled : ℕ) : Type 0 where
+  pub whole : isWhole (take (filled - kept) before) ≡ true
+  pub all : take (filled - kept) before ++ take kept after ≡ take filled before
+
+abbrev pub RestKept : Type 0
+RestKept = (kept : ℕ) (before after : List ℕ) (filled : ℕ)
+    → filled ≤ length before → Keeps kept before after filled → Rest kept before after filled
 
 -- ---- how much is written
 
@@ -126,6 +136,16 @@ OneByteMore = (map store image adr input : List ℕ)
 abbrev pub RunSettled : Type 0
 RunSettled = (t : Traced) (before : List ℕ) (q r : Ran) (store stored output written : List ℕ)
     → Runs q store output before t → Runs r stored written before t → (q ≡ r) × (store ≡ stored) × (output ≡ written)
+
+abbrev pub RestSettled : Type 0
+RestSettled = (before : List ℕ) (filled q r : ℕ) (after left : List ℕ)
+    → Keeps q before after filled → Keeps r before left filled → (q ≡ r) × (after ≡ left)
+
+abbrev pub EntrySettled : Type 0
+EntrySettled = (bytes : List ℕ) (i : ℕ) → Settles (λ e. Reads e bytes i)
+
+abbrev pub WhoSettled : Type 0
+WhoSettled = (adr : List ℕ) → Settles (λ who. who ≡ whoOf adr)
 
 abbrev pub FilesSettled : Type 0
 FilesSettled = (map store : List ℕ) (kept : ℕ) (adr : List ℕ) → Settles (λ n. n ≡ fileNumber map store kept adr)
