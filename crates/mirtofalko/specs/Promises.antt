@@ -10,22 +10,18 @@ use Rattle.laws.specs.Bits.{bits}
 use Rattle.laws.specs.Numbers.{Test, test}
 use Rattle.laws.specs.Settled.{Settles}
 use Rattle.banks.specs.Map.{recordsOf}
-use Rattle.banks.specs.Rules.{checkTests, checkNumber}
-use Rattle.banks.specs.Look.{lookOf}
+use Rattle.banks.specs.Rules.{checkTests}
 use Rattle.banks.specs.declared.looked.Looked.{Looked}
-use Rattle.frames.specs.Values.{writingWord}
-use Rattle.frames.specs.Read.{readOf}
-use Rattle.frames.specs.Word.{wordOf, messageOf}
-use Rattle.frames.specs.Compose.{composeOf, composePowerOf}
-use Rattle.frames.specs.declared.message.Source.{Source}
 use Rattle.unit.specs.Rules.{stateHolds}
 use Rattle.unit.specs.Step.{startTests}
 use Rattle.unit.specs.Promises.{GivenBy}
 use Rattle.unit.specs.declared.state.Reply.{Reply}
 use Rattle.unit.specs.declared.state.State.{State}
+use Rattle.tracing.specs.declared.entry.Entry.{Entry}
 use Rattle.mirtofalko.specs.StateBytes.{flag, stateBytes, stateOf, shapeHolds}
-use Rattle.mirtofalko.specs.Answers.{replyWord, lookWord, writtenOf}
-use Rattle.mirtofalko.specs.Face.{Faced, frameFace, powerOnFace, startFace, Faces}
+use Rattle.mirtofalko.specs.Answers.{replyWord, lookWord}
+use Rattle.mirtofalko.specs.Answers.{checkAnswer, lookAnswer, readAnswer, writeAnswer, eventAnswer, powerAnswer}
+use Rattle.mirtofalko.specs.Face.{Faced, frameFace, powerOnFace, startFace, Faces, RunFaced, runFace, RunFaces}
 
 -- ---- a state as 96 bytes
 
@@ -125,15 +121,21 @@ FacesRefused = (map store image : List ℕ) → Refused map store image
 abbrev pub SettlesFaced : Faced → Type 0
 SettlesFaced f = (a b : ℕ) (s t u v : List ℕ) → Faces a s u f → Faces b t v f → (a ≡ b) × (s ≡ t) × (u ≡ v)
 
+abbrev pub SettlesRun : RunFaced → Type 0
+SettlesRun f = (m n : ℕ) (s t u v o p before : List ℕ) → RunFaces m s u o before f → RunFaces n t v p before f →
+    (m ≡ n) × (s ≡ t) × (u ≡ v) × (o ≡ p)
+
 pub record Settled : Type 0 where
-  pub check : (map store : List ℕ) (kept : ℕ) → Settles (λ (r : ℕ). r ≡ checkNumber map store kept)
+  pub check : (map store image : List ℕ) → Settles (λ (r : ℕ). r ≡ checkAnswer map store image)
   pub start : (map store image : List ℕ) (address groups : ℕ) → SettlesFaced (startFace map store image address groups)
   pub frame : (map store image bytes : List ℕ) (frame clock : ℕ) →
       SettlesFaced (frameFace map store image bytes frame clock)
   pub power-on : (map store image bytes : List ℕ) → SettlesFaced (powerOnFace map store image bytes)
+  pub run : (map store image bytes : List ℕ) (es : List Entry) → SettlesRun (runFace map store image bytes es)
   pub look : (map store : List ℕ) (bank location : ℕ) →
-      Settles (λ (r : ℕ). r ≡ lookWord (lookOf map store bank location))
-  pub read : (frame : ℕ) → Settles (λ (r : ℕ). r ≡ wordOf (readOf frame))
-  pub write : (word : ℕ) → Settles (λ (r : ℕ). r ≡ writingWord (writtenOf (messageOf word)))
-  pub compose-event : (e : Source) → Settles (λ (r : ℕ). r ≡ writingWord (composeOf e))
-  pub compose-power : (short groups : ℕ) → Settles (λ (r : ℕ). r ≡ writingWord (composePowerOf short groups))
+      Settles (λ (r : ℕ). r ≡ lookAnswer map store bank location)
+  pub read : (frame : ℕ) → Settles (λ (r : ℕ). r ≡ readAnswer frame)
+  pub write : (word : ℕ) → Settles (λ (r : ℕ). r ≡ writeAnswer word)
+  pub compose-event : (sort number primary short groups information scheme : ℕ) →
+      Settles (λ (r : ℕ). r ≡ eventAnswer sort number primary short groups information scheme)
+  pub compose-power : (short groups : ℕ) → Settles (λ (r : ℕ). r ≡ powerAnswer short groups)

@@ -16,7 +16,11 @@ pub fn reply_word(reply: Reply) -> u32
 pub fn refusal_word(number: u8) -> u32
     ensures { λ r. ⌜ r ≡ replyWord (refusal number) ⌝ }
 {
-    number as u32
+    reply_word(Reply {
+        number: number,
+        answered: false,
+        answer: 0,
+    })
 }
 
 pub fn look_word(looked: Looked) -> u32

@@ -2,12 +2,10 @@
 ghost use mathlib.Core.Path.{_≡_};
 ghost use mathlib.Core.Bool.{false};
 ghost use lib.ListN.{length};
-ghost use Rattle.banks.specs.Rules.{checkNumber};
-ghost use Rattle.banks.specs.Look.{lookOf};
 ghost use Rattle.unit.specs.Rules.{addressHolds};
 ghost use Rattle.tracing.specs.Entry.{entries};
 ghost use Rattle.tracing.specs.Run.{roomFor};
-ghost use Rattle.mirtofalko.specs.Answers.{lookWord};
+ghost use Rattle.mirtofalko.specs.Answers.{checkAnswer, lookAnswer};
 ghost use Rattle.mirtofalko.specs.Face.{shapeNumber, startFace, frameFace, powerOnFace, Faces};
 ghost use Rattle.mirtofalko.specs.Face.{runFace, RunFaces};
 use crate::answers::look_word;
@@ -23,7 +21,7 @@ use unit::State;
 // The number of map, store and reset image: 7 to 11, or 0.
 #[no_mangle]
 pub extern "C" fn mf_check(map: &[u8], store: &[u8], image: &[u8]) -> u32
-    ensures { λ r. ⌜ r ≡ checkNumber (now (map .entry)) (now (store .entry)) (length (now (image .entry))) ⌝ }
+    ensures { λ r. ⌜ r ≡ checkAnswer (now (map .entry)) (now (store .entry)) (now (image .entry)) ⌝ }
 {
     banks::check(map, store, image) as u32
 }
@@ -31,7 +29,7 @@ pub extern "C" fn mf_check(map: &[u8], store: &[u8], image: &[u8]) -> u32
 // Number, width and store offset of the value that begins at the bank and location.
 #[no_mangle]
 pub extern "C" fn mf_look(map: &[u8], store: &[u8], bank: u8, location: u8) -> u32
-    ensures { λ r. ⌜ r ≡ lookWord (lookOf (now (map .entry)) (now (store .entry)) bank location) ⌝ }
+    ensures { λ r. ⌜ r ≡ lookAnswer (now (map .entry)) (now (store .entry)) bank location ⌝ }
 {
     look_word(banks::look_at(map, store, bank, location))
 }

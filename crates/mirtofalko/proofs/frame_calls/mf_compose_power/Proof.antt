@@ -1,15 +1,14 @@
 -- `mirtofalko::frame_calls::mf_compose_power` meets its contract.
 -- Assumes nothing.
 use Rattle.mirtofalko.proofs.Composed.{power-not-held}
-use mathlib.Core.Path.{_∙_}
+use mathlib.Core.Path.{ap, sym, _∙_}
 use borrow.Author.Needs.{needs}
+use Rattle.frames.specs.Values.{writingWord}
 use Rattle.mirtofalko.proofs.frame_calls.mf_compose_power.Statement.{statement}
 use Rattle.mirtofalko.proofs.frame_calls.mf_compose_power.Tie as tie
 
 returns : tie.Need-returns
-returns c =
-    let a = c .before .before .args in
-    c .writing-word .ensures ∙ rw (power-not-held (a .short) (a .groups) (c .before .if1 .taken))
+returns c = c .out-of-range .ensures ∙ ap writingWord (sym (power-not-held _ _ (c .before .if1 .taken)))
 
 pub mf-compose-power-spec : {M : Type 1} → statement M
 mf-compose-power-spec =
@@ -20,4 +19,4 @@ mf-compose-power-spec =
     (λ c. search needs)
     (λ c κs. search needs)
     (λ c κs. search needs)
-    (λ c. rw (c .writing-word2 .ensures, c .before .compose-power .ensures)))
+    (λ c. rw (c .writing-word .ensures, c .before .compose-power .ensures)))

@@ -7,12 +7,12 @@ use Rattle.mirtofalko.proofs.frame_calls.mf_write.Tie as tie
 
 returns : tie.Need-returns
 returns c =
-    c .writing-word .ensures ∙ rw (sym (c .before .before .before .message-of .ensures) ∙ c .before .enum-told .given .1)
+    c .out-of-range .ensures ∙ rw (sym (c .before .before .before .message-of .ensures) ∙ c .before .enum-told .given .1)
 
 returns-2 : tie.Need-returns-2
 returns-2 c =
     let got = c .before .before .before in
-    c .writing-word2 .ensures
+    c .writing-word .ensures
     ∙ rw (c .before .write .ensures, sym (got .before .before .message-of .ensures) ∙ got .message .given .1)
 
 pub mf-write-spec : {M : Type 1} → statement M
