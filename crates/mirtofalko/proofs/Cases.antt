@@ -4,29 +4,34 @@ use mathlib.Core.Path.{refl}
 use lib.Count.{trailingZeros}
 use Rattle.frames.specs.Values.{addressAt, schemeAt, fieldAt}
 use Rattle.frames.specs.Write.{bytesFrame, eventFits, eventFrame, powerFrame, writeOf}
-use Rattle.frames.specs.Compose.{orMissing, sourceFits, shippedOf, orBlank, lowestGroup, eventBy, composeOf, powerFits, composePowerOf}
+use Rattle.frames.specs.Compose.{orMissing, sourceFits, shippedOf, orBlank, lowestGroup, eventBy, composeOf}
+use Rattle.frames.specs.Compose.{powerFits, composePowerOf}
 use Rattle.frames.specs.Word.{sixBytes, messageAt, messageOf}
 use Rattle.banks.specs.Rules.{checkNumber}
 use Rattle.unit.proofs.Bench.{reading, checking, looking, meaning, storing, filling, keeping, rooms, acting, calling}
 use Rattle.mirtofalko.specs.StateBytes.{bytesOf, stateBytes, fourAt, stateOf, shapeHolds}
 use Rattle.mirtofalko.specs.Answers.{replyWord, lookWord}
-use Rattle.mirtofalko.specs.Face.{shapeNumber, startFace, frameFace, powerOnFace}
+use Rattle.mirtofalko.specs.Face.{shapeNumber, startFace, frameFace, powerOnFace, runFace}
 use Rattle.mirtofalko.specs.Cases.{Cases}
 use Rattle.looks.specs.Look.{lookNumber, lookOf}
 
 unfoldable words : Unit {0}
-unfolding lookNumber lookOf trailingZeros addressAt schemeAt fieldAt bytesFrame eventFits eventFrame powerFrame writeOf orMissing sourceFits shippedOf
-    orBlank lowestGroup eventBy composeOf powerFits composePowerOf sixBytes messageAt messageOf
+unfolding lookNumber lookOf trailingZeros addressAt schemeAt fieldAt bytesFrame eventFits eventFrame powerFrame writeOf
+    orMissing sourceFits shippedOf orBlank lowestGroup eventBy composeOf powerFits composePowerOf
+    sixBytes messageAt messageOf
 words = tt
 
 unfoldable faces : Unit {0}
 unfolding bytesOf stateBytes fourAt stateOf shapeHolds replyWord lookWord shapeNumber startFace frameFace powerOnFace
+    runFace
 faces = tt
 
 pub cases : Cases
 unfolding reading checking looking meaning storing filling keeping rooms acting calling words faces checkNumber
 cases =
     record {
+      places = (refl, refl);
+      check = (refl, refl);
       look = refl;
       look-none = refl;
       read = refl;
@@ -34,15 +39,18 @@ cases =
       write = refl;
       write-no-message = refl;
       write-out-of-range = refl;
-      compose-event = refl;
+      compose-events = (refl, refl, refl, refl, refl);
       compose-refused = refl;
-      compose-power = refl;
+      compose-power = (refl, refl);
       start = (refl, refl, refl);
       start-refused = (refl, refl);
       half = refl;
       p11-answers = refl;
       p11-store = refl;
       staged = refl;
-      no-state = refl;
+      flags = (refl, refl, refl);
+      behind = (refl, refl);
+      in-order = (refl, refl);
+      run = refl;
       power-on = refl;
     }

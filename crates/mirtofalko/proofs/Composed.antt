@@ -1,16 +1,15 @@
 -- A field that is too large for its type is out of range.
 -- Assumes nothing.
 use Prim.Native.Nat.{ℕ, _≤_, _<_, _^_}
-use mathlib.Core.Path.{_≡_, refl}
-use mathlib.Core.Bool.{Bool, true, false, _&&_, _||_}
+use mathlib.Core.Path.{_≡_, refl, sym, _∙_}
+use mathlib.Core.Bool.{Bool, true, false, not, _&&_, _||_}
 use native.Mathlib.Omega.{arith}
 use lib.Dec.{ltb, leb, eqb}
-use borrow.Author.Tests.{ltb-true, leb-true, le-leb, eqb-true}
+use borrow.Author.Tests.{ltb-true, leb-true, le-leb, eqb-true, not-true}
 use Rattle.laws.proofs.Tests.{both, if-by, clash}
 use Rattle.frames.specs.Compose.{orMissing, sourceFits, composeOf, powerFits, composePowerOf}
 use Rattle.frames.specs.declared.message.Source.{Source}
-use Rattle.frames.specs.declared.message.Writing.{Writing}
-use Rattle.mirtofalko.specs.Answers.{source, fieldsHeld, Held}
+use Rattle.mirtofalko.specs.Answers.{outOfRange, source, fieldsHeld, Held}
 
 below : (x limit : ℕ) → limit ≤ 255 → orMissing x limit ≡ true → x ≤ 255
 unfolding orMissing
@@ -60,20 +59,25 @@ module _ (sort number primary short information scheme : ℕ) where
   all-held : Held sort number primary short information scheme →
       fieldsHeld sort number primary short information scheme ≡ true
   all-held h =
-      rw (le-leb sort 255 (h .low-sort), le-leb number 255 (h .low-number), le-leb primary 255 (h .low-primary),
-        le-leb short 255 (h .low-short), le-leb scheme 255 (h .low-scheme),
-        le-leb information 65535 (h .low-information))
+      rw (
+        le-leb sort 255 (h .low-sort),
+        le-leb number 255 (h .low-number),
+        le-leb primary 255 (h .low-primary),
+        le-leb short 255 (h .low-short),
+        le-leb scheme 255 (h .low-scheme),
+        le-leb information 65535 (h .low-information),
+      )
 
-  pub not-held : (groups : ℕ) → fieldsHeld sort number primary short information scheme ≡ false →
-      composeOf (source sort number primary short groups information scheme) ≡ Writing.Refused 6
+  pub not-held : (groups : ℕ) {fits : Bool} → fits ≡ fieldsHeld sort number primary short information scheme →
+      not fits ≡ true → composeOf (source sort number primary short groups information scheme) ≡ outOfRange
   unfolding composeOf
-  not-held groups f =
-      if-by (λ w. w ≡ Writing.Refused 6) (sourceFits (source sort number primary short groups information scheme))
-        (λ t. clash _ (all-held (fits-held _ t)) f) (λ t. refl)
+  not-held groups {fits} e f =
+      if-by (λ w. w ≡ outOfRange) (sourceFits (source sort number primary short groups information scheme))
+      (λ t. clash _ (all-held (fits-held _ t)) (sym e ∙ not-true fits f)) (λ t. refl)
 
-pub power-not-held : (short groups : ℕ) → 255 < short → composePowerOf short groups ≡ Writing.Refused 6
+pub power-not-held : (short groups : ℕ) → 255 < short → composePowerOf short groups ≡ outOfRange
 unfolding composePowerOf powerFits
 power-not-held short groups h =
-    if-by (λ w. w ≡ Writing.Refused 6) (powerFits short groups)
-      (λ f. absurd (omega (arith, below short 64 (omega arith) (both (ltb groups (2 ^ 32)) (orMissing short 64) f .1))))
-      (λ f. refl)
+    if-by (λ w. w ≡ outOfRange) (powerFits short groups)
+    (λ f. absurd (omega (arith, below short 64 (omega arith) (both (ltb groups (2 ^ 32)) (orMissing short 64) f .1))))
+    (λ f. refl)

@@ -24,7 +24,8 @@ use Rattle.mirtofalko.specs.Promises.{Bytes, frameTests, powerOnTests, F
 use Rattle.mirtofalko.proofs.Round.{bytes-back}
 
 -- a test that fails shuts off the tests behind it
-pub shut-off : (ts us : List Test) (n : ℕ) → firstFailing (ts ++ test n false ∷ us) ≡ firstFailing (ts ++ test n false ∷ [])
+pub shut-off : (ts us : List Test) (n : ℕ) →
+    firstFailing (ts ++ test n false ∷ us) ≡ firstFailing (ts ++ test n false ∷ [])
 unfolding firstFailing
 shut-off [] us n = refl
 shut-off (t ∷ ts) us n = rw (shut-off ts us n)
@@ -89,20 +90,20 @@ unfolding startFace frameFace powerOnFace
 faces-refused map store image =
     record {
       start = λ address groups h.
-        refuses _ _ zeroState store _
+          refuses _ _ zeroState store _
           (calls-refused map store image _ h .start _ (sym (calls-numbered map store image .start-replies _)))
           zero-bytes;
       frame = λ bytes b frame clock h.
-        let heard : Heard = record { clock = clock; frame = frame } in
-        on-bytes map store bytes (length image) (stepOf map store image (stateOf bytes) heard) _ refl h
+          let heard : Heard = record { clock = clock; frame = frame } in
+          on-bytes map store bytes (length image) (stepOf map store image (stateOf bytes) heard) _ refl h
           (λ t k. refuses _ _ (stateOf bytes) store bytes
-            (calls-refused map store image _ k .step (stateOf bytes) heard
-              (sym (calls-numbered map store image .step-replies (stateOf bytes) heard)))
-            (bytes-back bytes b t));
+          (calls-refused map store image _ k .step (stateOf bytes) heard
+          (sym (calls-numbered map store image .step-replies (stateOf bytes) heard)))
+          (bytes-back bytes b t));
       power-on = λ bytes b h.
-        on-bytes map store bytes (length image) (powerOnOf map store image (stateOf bytes)) _ refl h
+          on-bytes map store bytes (length image) (powerOnOf map store image (stateOf bytes)) _ refl h
           (λ t k. refuses _ _ (stateOf bytes) store bytes
-            (calls-refused map store image _ k .power-on (stateOf bytes)
-              (sym (calls-numbered map store image .power-replies (stateOf bytes))))
-            (bytes-back bytes b t));
+          (calls-refused map store image _ k .power-on (stateOf bytes)
+          (sym (calls-numbered map store image .power-replies (stateOf bytes))))
+          (bytes-back bytes b t));
     }

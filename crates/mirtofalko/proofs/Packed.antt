@@ -15,14 +15,14 @@ pub packed : (s : State) (waits opens holds : ℕ) (who frame clock staged latch
     holds ≡ flag (s .latch .held) →
     who ≡ put 1 (bytesOf (s .who .groups)) (set (replicate 96 0) 0 (s .who .address)) →
     frame ≡ put 9 (bytesOf (s .waiting .frame))
-      (set (set (set (set who 5 (s .registers .dtr0)) 6 (s .registers .dtr1)) 7 (s .registers .dtr2)) 8 waits) →
+    (set (set (set (set who 5 (s .registers .dtr0)) 6 (s .registers .dtr1)) 7 (s .registers .dtr2)) 8 waits) →
     clock ≡ put 13 (bytesOf (s .waiting .clock)) frame →
     (staged ≡ put 21 (s .door .staged .bytes)
-      (set (set (set (set clock 17 opens) 18 (s .door .staged .count))
-        19 (s .door .staged .bank)) 20 (s .door .staged .first)))
+    (set (set (set (set clock 17 opens) 18 (s .door .staged .count))
+    19 (s .door .staged .bank)) 20 (s .door .staged .first)))
     × (length (s .door .staged .bytes) ≡ 8) →
     (latched ≡ put 32 (s .latch .bytes)
-      (set (set (set staged 29 holds) 30 (s .latch .bank)) 31 (s .latch .first)))
+    (set (set (set staged 29 holds) 30 (s .latch .bank)) 31 (s .latch .first)))
     × (length (s .latch .bytes) ≡ 8) →
     latched ≡ stateBytes s
 unfolding put bytesOf stateBytes

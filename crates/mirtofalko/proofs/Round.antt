@@ -22,8 +22,15 @@ use Rattle.mirtofalko.proofs.Spelled.{at, part-items, spelled, zeros-ar
 -- a number is its four bytes
 four-back : (n : ℕ) → n < 2 ^ 32 → fourBytes (bits n 31 24) (bits n 23 16) (bits n 15 8) (bits n 7 0) ≡ n
 four-back n h =
-    omega (arith, above-all n, cut n 7 0 (omega arith), cut n 15 8 (omega arith), cut n 23 16 (omega arith),
-      cut n 31 24 (omega arith), above-none n 32 h)
+    omega (
+      arith,
+      above-all n,
+      cut n 7 0 (omega arith),
+      cut n 15 8 (omega arith),
+      cut n 23 16 (omega arith),
+      cut n 31 24 (omega arith),
+      above-none n 32 h,
+    )
 
 flag-back : (b : Bool) → eqb (flag b) 1 ≡ b
 flag-back true = refl
@@ -36,14 +43,24 @@ flag-low false = refl
 pub state-back : StateBack
 unfolding stateBytes bytesOf stateOf fourAt shapeHolds part
 state-back s h =
-    rw (spelled 8 (s .door .staged .bytes) (h .staged), spelled 8 (s .latch .bytes) (h .latched),
-      four-back (s .who .groups) (h .groups), four-back (s .waiting .frame) (h .frame),
-      four-back (s .waiting .clock) (h .clock), flag-back (s .waiting .held), flag-back (s .door .enabled),
-      flag-back (s .latch .held), flag-low (s .waiting .held), flag-low (s .door .enabled), flag-low (s .latch .held))
-      (refl, refl)
+    rw (
+      spelled 8 (s .door .staged .bytes) (h .staged),
+      spelled 8 (s .latch .bytes) (h .latched),
+      four-back (s .who .groups) (h .groups),
+      four-back (s .waiting .frame) (h .frame),
+      four-back (s .waiting .clock) (h .clock),
+      flag-back (s .waiting .held),
+      flag-back (s .door .enabled),
+      flag-back (s .latch .held),
+      flag-low (s .waiting .held),
+      flag-low (s .door .enabled),
+      flag-low (s .latch .held),
+    )
+    (refl, refl)
 
 -- four bytes are those of their number
-bytes-back-four : (a b c d : ℕ) → a < 256 → b < 256 → c < 256 → d < 256 → bytesOf (fourBytes a b c d) ≡ a ∷ b ∷ c ∷ d ∷ []
+bytes-back-four : (a b c d : ℕ) → a < 256 → b < 256 → c < 256 → d < 256 →
+    bytesOf (fourBytes a b c d) ≡ a ∷ b ∷ c ∷ d ∷ []
 unfolding bytesOf bits
 bytes-back-four a b c d p q r s = rw (e₁, e₂, e₃, e₄)
   where
@@ -81,8 +98,16 @@ module _ (b : List ℕ) (h : Bytes b) (t : shapeHolds b ≡ true) where
   unfolding stateBytes stateOf
   rooms =
       let l = h .long in
-      rw (part-items 8 21 b (omega arith), part-items 8 32 b (omega arith), four-of 1, four-of 9, four-of 13,
-        flag-of (at b 8) (shape .0), flag-of (at b 17) (shape .1), flag-of (at b 29) (shape .2))
+      rw (
+        part-items 8 21 b (omega arith),
+        part-items 8 32 b (omega arith),
+        four-of 1,
+        four-of 9,
+        four-of 13,
+        flag-of (at b 8) (shape .0),
+        flag-of (at b 17) (shape .1),
+        flag-of (at b 29) (shape .2),
+      )
 
   behind : drop 40 b ≡ replicate 56 0
   behind =

@@ -84,23 +84,23 @@ unfit-state map store s e = rw e
 
 module _ (map before image bytes : List ℕ) (es : List Entry) (shaped : Bool) (e : shaped ≡ shapeHolds bytes)
     (s : State) {r : Ran} {store output prior : List ℕ} (q : Runs r store output prior (tracedOf map image before s es))
-    where
-  pub run-unshaped : not shaped ≡ true → addressHolds (s .who .address) ≡ false →
-      RunFaces (r .count) bytes store output prior (runFace map before image bytes es)
-  unfolding runFace
-  run-unshaped t f =
-      let p = refused-run map before image s (unfit-state map before s f) es in
-      rw (sym e ∙ not-true shaped t)
-      (record {
-        counts = q .count ∙ ap (λ (o : List ℕ). length o / 4) (p .0);
-        keeps = refl;
-        leaves = q .leaves ∙ p .1;
-        writes = q .writes ∙ ap (λ (o : List ℕ). o ++ drop (length o) prior) (p .0);
-      })
+  where
+    pub run-unshaped : not shaped ≡ true → addressHolds (s .who .address) ≡ false →
+        RunFaces (r .count) bytes store output prior (runFace map before image bytes es)
+    unfolding runFace
+    run-unshaped t f =
+        let p = refused-run map before image s (unfit-state map before s f) es in
+        rw (sym e ∙ not-true shaped t)
+        (record {
+          counts = q .count ∙ ap (λ (o : List ℕ). length o / 4) (p .0);
+          keeps = refl;
+          leaves = q .leaves ∙ p .1;
+          writes = q .writes ∙ ap (λ (o : List ℕ). o ++ drop (length o) prior) (p .0);
+        })
 
-  pub run-shaped : not shaped ≡ false → s ≡ stateOf bytes → {state : List ℕ} → state ≡ stateBytes (r .state) →
-      RunFaces (r .count) state store output prior (runFace map before image bytes es)
-  unfolding runFace
-  run-shaped t h k =
-      rw (sym e ∙ not-false shaped t, ← h)
-      (record { counts = q .count; keeps = k ∙ ap stateBytes (q .state); leaves = q .leaves; writes = q .writes })
+    pub run-shaped : not shaped ≡ false → s ≡ stateOf bytes → {state : List ℕ} → state ≡ stateBytes (r .state) →
+        RunFaces (r .count) state store output prior (runFace map before image bytes es)
+    unfolding runFace
+    run-shaped t h k =
+        rw (sym e ∙ not-false shaped t, ← h)
+        (record { counts = q .count; keeps = k ∙ ap stateBytes (q .state); leaves = q .leaves; writes = q .writes })

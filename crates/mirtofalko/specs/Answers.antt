@@ -1,14 +1,22 @@
--- An answer as one number.
+-- An answer as one number, and what the calls answer that take no state.
 -- Assumes nothing.
 use Prim.Native.Nat.{ℕ, _+_, _*_, _^_, _≤_}
 use mathlib.Core.Bool.{Bool, false, _&&_}
+use mathlib.Core.List.{List}
 use lib.Dec.{leb}
+use lib.ListN.{length}
+use Rattle.frames.specs.Values.{writingWord}
+use Rattle.frames.specs.Read.{readOf}
 use Rattle.frames.specs.Write.{writeOf}
+use Rattle.frames.specs.Word.{wordOf, messageOf}
+use Rattle.frames.specs.Compose.{composeOf, composePowerOf}
 use Rattle.frames.specs.declared.message.Reading.{Reading}
 use Rattle.frames.specs.declared.message.Source.{Source}
 use Rattle.frames.specs.declared.message.Writing.{Writing}
+use Rattle.banks.specs.Rules.{checkNumber}
 use Rattle.rooms.specs.declared.reply.Reply.{Reply}
 use Rattle.mirtofalko.specs.StateBytes.{flag}
+use Rattle.looks.specs.Look.{lookOf}
 use Rattle.looks.specs.declared.looked.Looked.{Looked}
 
 -- a refusal: the number, and no answer
@@ -23,11 +31,14 @@ replyWord r = r .number + flag (r .answered) * 2 ^ 8 + r .answer * 2 ^ 16
 unfoldable pub lookWord : Looked → ℕ
 lookWord l = l .number + l .width * 2 ^ 8 + l .offset * 2 ^ 16
 
--- number << 24 | frame is `writingWord` of frames. What is written of a word: 6 if no message has it, or if its message
--- has a field out of range
+-- number << 24 | frame is `writingWord` of frames. 6: out of range
+abbrev pub outOfRange : Writing
+outOfRange = Writing.Refused 6
+
+-- what is written of a word: 6 if no message has it, or if its message has a field out of range
 abbrev pub writtenOf : Reading → Writing
 writtenOf (Reading.Got m) = writeOf m
-writtenOf (Reading.Refused n) = Writing.Refused 6
+writtenOf (Reading.Refused n) = outOfRange
 
 -- type, number, primary group, short address, 32 group bits, information, scheme
 abbrev pub source : ℕ → ℕ → ℕ → ℕ → ℕ → ℕ → ℕ → Source
@@ -54,3 +65,30 @@ pub record Held (sort number primary short information scheme : ℕ) : Type 0 wh
   pub low-short : short ≤ 255
   pub low-information : information ≤ 65535
   pub low-scheme : scheme ≤ 255
+
+-- ---- the calls
+
+-- mf_check: 7 to 11, or 0
+abbrev pub checkAnswer : List ℕ → List ℕ → List ℕ → ℕ
+checkAnswer map store image = checkNumber map store (length image)
+
+-- mf_look
+abbrev pub lookAnswer : List ℕ → List ℕ → ℕ → ℕ → ℕ
+lookAnswer map store bank location = lookWord (lookOf map store bank location)
+
+-- mf_read
+abbrev pub readAnswer : ℕ → ℕ
+readAnswer frame = wordOf (readOf frame)
+
+-- mf_write
+abbrev pub writeAnswer : ℕ → ℕ
+writeAnswer word = writingWord (writtenOf (messageOf word))
+
+-- mf_compose_event
+abbrev pub eventAnswer : ℕ → ℕ → ℕ → ℕ → ℕ → ℕ → ℕ → ℕ
+eventAnswer sort number primary short groups information scheme =
+    writingWord (composeOf (source sort number primary short groups information scheme))
+
+-- mf_compose_power
+abbrev pub powerAnswer : ℕ → ℕ → ℕ
+powerAnswer short groups = writingWord (composePowerOf short groups)

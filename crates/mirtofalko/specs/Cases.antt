@@ -1,18 +1,18 @@
--- Worked cases of the bench sheet, as C sees them: the answers, the 96 bytes and the store.
+-- Worked cases as C sees them: the answers, the 96 bytes and the store. Most are the bench sheet's.
 -- Assumes nothing.
-use Prim.Native.Nat.{ℕ}
+use Prim.Native.Nat.{ℕ, _+_, _^_}
 use mathlib.Core.Path.{_≡_}
+use mathlib.Core.Bool.{true}
 use mathlib.Core.List.{List, [], _∷_, _++_}
-use lib.ListN.{replicate}
-use Rattle.frames.specs.Values.{writingWord}
-use Rattle.frames.specs.Read.{readOf}
-use Rattle.frames.specs.Word.{wordOf, messageOf}
-use Rattle.frames.specs.Compose.{composeOf, composePowerOf}
+use lib.ListN.{set, replicate}
 use Rattle.hearing.specs.declared.rooms.Heard.{Heard}
+use Rattle.rooms.specs.declared.state.State.{State}
 use Rattle.unit.specs.Bench.{benchMap, benchStore, benchImage}
-use Rattle.mirtofalko.specs.Answers.{replyWord, lookWord, writtenOf, source}
-use Rattle.mirtofalko.specs.Face.{Faced, startFace, frameFace, powerOnFace}
-use Rattle.looks.specs.Look.{lookOf}
+use Rattle.tracing.specs.declared.entry.Entry.{Entry}
+use Rattle.mirtofalko.specs.StateBytes.{stateBytes, stateOf}
+use Rattle.mirtofalko.specs.Answers.{replyWord}
+use Rattle.mirtofalko.specs.Answers.{checkAnswer, lookAnswer, readAnswer, writeAnswer, eventAnswer, powerAnswer}
+use Rattle.mirtofalko.specs.Face.{Faced, startFace, frameFace, powerOnFace, runFace}
 
 -- address 5, no groups
 abbrev pub started : Faced
@@ -53,23 +53,75 @@ stagedBytes =
     0x05 ∷ 0x00 ∷ 0x00 ∷ 0x00 ∷ 0x00 ∷ 0x05 ∷ 0x02 ∷ 0x00 ∷ replicate 9 0
     ++ 0x01 ∷ 0x02 ∷ 0x02 ∷ 0x03 ∷ 0xAA ∷ 0xBB ∷ replicate 73 0
 
+-- each byte of a state in its place: byte number n is n, and each flag is 1
+abbrev tableBytes : List ℕ
+tableBytes =
+    0 ∷ 1 ∷ 2 ∷ 3 ∷ 4 ∷ 5 ∷ 6 ∷ 7 ∷ 1 ∷ 9 ∷ 10 ∷ 11 ∷ 12 ∷ 13 ∷ 14 ∷ 15 ∷ 16 ∷ 1 ∷ 18 ∷ 19 ∷ 20
+    ∷ 21 ∷ 22 ∷ 23 ∷ 24 ∷ 25 ∷ 26 ∷ 27 ∷ 28 ∷ 1 ∷ 30 ∷ 31 ∷ 32 ∷ 33 ∷ 34 ∷ 35 ∷ 36 ∷ 37 ∷ 38 ∷ 39 ∷ replicate 56 0
+
+abbrev tableState : State
+tableState =
+    record {
+      who = record { address = 0; groups = 0x01020304 };
+      registers = record { dtr0 = 5; dtr1 = 6; dtr2 = 7 };
+      waiting = record { held = true; frame = 0x090A0B0C; clock = 0x0D0E0F10 };
+      door =
+          record {
+            enabled = true;
+            staged =
+                record {
+                  count = 18;
+                  bank = 19;
+                  first = 20;
+                  bytes = 21 ∷ 22 ∷ 23 ∷ 24 ∷ 25 ∷ 26 ∷ 27 ∷ 28 ∷ [];
+                };
+          };
+      latch =
+          record {
+            held = true;
+            bank = 30;
+            first = 31;
+            bytes = 32 ∷ 33 ∷ 34 ∷ 35 ∷ 36 ∷ 37 ∷ 38 ∷ 39 ∷ [];
+          };
+    }
+
+-- a start's bytes with another byte at one place
+abbrev startedWith : ℕ → ℕ → List ℕ
+startedWith place byte = set (0x05 ∷ replicate 95 0) place byte
+
+abbrev frameWith : ℕ → ℕ → ℕ
+frameWith place byte = replyWord (frameFace benchMap benchStore benchImage (startedWith place byte) 0x0BFE15 0 .reply)
+
+abbrev powerOnWith : ℕ → ℕ → ℕ
+powerOnWith place byte = replyWord (powerOnFace benchMap benchStore benchImage (startedWith place byte) .reply)
+
 pub record Cases : Type 0 where
+  -- the places of the state's bytes
+  pub places : (stateBytes tableState ≡ tableBytes) × (stateOf tableBytes ≡ tableState)
+  -- 10: an image that is not as long as the store
+  pub check : (checkAnswer benchMap benchStore benchImage ≡ 0) × (checkAnswer benchMap benchStore [] ≡ 10)
   -- the value at bank 2, location 0x03 has 4 bytes, from store offset 2 on; 14: none begins at 0x04
-  pub look : lookWord (lookOf benchMap benchStore 2 0x03) ≡ 0x020400
-  pub look-none : lookWord (lookOf benchMap benchStore 2 0x04) ≡ 14
+  pub look : lookAnswer benchMap benchStore 2 0x03 ≡ 0x020400
+  pub look-none : lookAnswer benchMap benchStore 2 0x04 ≡ 14
   -- P1: command, short address 5, device, 0x15; and P10: refusal 5
-  pub read : wordOf (readOf 0x0BFE15) ≡ 0x050A001500
-  pub read-refused : wordOf (readOf 0xFEE001) ≡ 0x0500000000000000
-  pub write : writingWord (writtenOf (messageOf 0x050A001500)) ≡ 0x0BFE15
+  pub read : readAnswer 0x0BFE15 ≡ 0x050A001500
+  pub read-refused : readAnswer 0xFEE001 ≡ 0x0500000000000000
+  pub write : writeAnswer 0x050A001500 ≡ 0x0BFE15
   -- 6: no message has the word; and one whose short address is 64
-  pub write-no-message : writingWord (writtenOf (messageOf 0)) ≡ 0x06000000
-  pub write-out-of-range : writingWord (writtenOf (messageOf 0x400A001500)) ≡ 0x06000000
-  -- P4, and P8
-  pub compose-event : writingWord (composeOf (source 3 0 255 5 0 0x155 1)) ≡ 0x0A0D55
-  pub compose-refused : writingWord (composeOf (source 256 0 255 5 0 0x155 1)) ≡ 0x06000000
-  pub compose-power : writingWord (composePowerOf 5 8) ≡ 0xFEF1C5
+  pub write-no-message : writeAnswer 0 ≡ 0x06000000
+  pub write-out-of-range : writeAnswer 0x400A001500 ≡ 0x06000000
+  -- P3 to P7: type, number, primary group, short address, groups, information, scheme; and a type out of range
+  pub compose-events : (eventAnswer 1 2 255 255 0 5 0 ≡ 0x828805)
+      × (eventAnswer 3 0 255 5 0 0x155 1 ≡ 0x0A0D55)
+      × (eventAnswer 0 31 255 63 0 1023 2 ≡ 0x7EFFFF)
+      × (eventAnswer 4 0 255 255 (2 ^ 7 + 2 ^ 9) 0 3 ≡ 0x8E1000)
+      × (eventAnswer 0 0 31 255 0 1 4 ≡ 0xFE0001)
+  pub compose-refused : eventAnswer 256 0 255 5 0 0x155 1 ≡ 0x06000000
+  -- P8, and P9
+  pub compose-power : (powerAnswer 5 (2 ^ 3) ≡ 0xFEF1C5) × (powerAnswer 255 0 ≡ 0xFEE000)
   -- a start, and one that is refused: 6, all zeros
-  pub start : (replyWord (started .reply) ≡ 0) × (started .state ≡ 0x05 ∷ replicate 95 0) × (started .store ≡ benchStore)
+  pub start : (replyWord (started .reply) ≡ 0)
+      × (started .state ≡ 0x05 ∷ replicate 95 0) × (started .store ≡ benchStore)
   pub start-refused : (replyWord (startFace benchMap benchStore benchImage 64 0 .reply) ≡ 6)
       × (startFace benchMap benchStore benchImage 64 0 .state ≡ replicate 96 0)
   -- the first half of a pair waits, with its clock
@@ -82,7 +134,15 @@ pub record Cases : Type 0 where
   -- staged bytes, a third and a fourth
   pub staged : tells stagedBytes (0x06 ∷ 0x55 ∷ 0 ∷ 0 ∷ 0 ∷ 0 ∷ []) (at 0 0xC120CC ∷ at 0 0xC120DD ∷ []) .store
       ≡ 0x06 ∷ 0x55 ∷ 0xAA ∷ 0xBB ∷ 0xCC ∷ 0xDD ∷ []
-  -- bytes that are no state's: 12
-  pub no-state : replyWord (powerOnFace benchMap benchStore benchImage (replicate 95 0 ++ 1 ∷ []) .reply) ≡ 12
+  -- a flag over 1, or a byte from 40 on that is not zero: 12
+  pub flags : (frameWith 8 2 ≡ 12) × (powerOnWith 17 2 ≡ 12) × (powerOnWith 29 2 ≡ 12)
+  pub behind : (frameWith 40 1 ≡ 12) × (powerOnWith 95 1 ≡ 12)
+  -- 12 in its place: 7 before it, 1 behind it
+  pub in-order : (replyWord (frameFace (0 ∷ []) benchStore benchImage (startedWith 17 2) 0x1000000 0 .reply) ≡ 7)
+      × (replyWord (frameFace benchMap benchStore benchImage (startedWith 17 2) 0x1000000 0 .reply) ≡ 12)
+  -- a run from there: 12, and 13 for a record of unknown kind
+  pub run : runFace benchMap benchStore benchImage (startedWith 17 2) (Entry.PowerOn ∷ Entry.Broken ∷ []) .output
+      ≡ 12 ∷ 0 ∷ 0 ∷ 0 ∷ 13 ∷ 0 ∷ 0 ∷ 0 ∷ []
   -- a power-on shuts write-enable and drops staging; its lock byte becomes 0xFF
-  pub power-on : powerOnFace benchMap (0x06 ∷ 0x55 ∷ 0 ∷ 0 ∷ 0 ∷ 0 ∷ []) benchImage stagedBytes .state ≡ 0x05 ∷ replicate 95 0
+  pub power-on :
+      powerOnFace benchMap (0x06 ∷ 0x55 ∷ 0 ∷ 0 ∷ 0 ∷ 0 ∷ []) benchImage stagedBytes .state ≡ 0x05 ∷ replicate 95 0

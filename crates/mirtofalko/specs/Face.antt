@@ -39,7 +39,7 @@ onBytes map store kept bytes o =
 unfoldable pub frameFace : List ℕ → List ℕ → List ℕ → List ℕ → ℕ → ℕ → Faced
 frameFace map store image bytes frame clock =
     onBytes map store (length image) bytes
-      (stepOf map store image (stateOf bytes) (record { clock = clock; frame = frame }))
+    (stepOf map store image (stateOf bytes) (record { clock = clock; frame = frame }))
 
 unfoldable pub powerOnFace : List ℕ → List ℕ → List ℕ → List ℕ → Faced
 powerOnFace map store image bytes = onBytes map store (length image) bytes (powerOnOf map store image (stateOf bytes))

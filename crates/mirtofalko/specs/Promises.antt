@@ -9,28 +9,24 @@ use lib.ListN.{length, getD, replicate}
 use Rattle.laws.specs.Bits.{bits}
 use Rattle.laws.specs.Numbers.{Test, test}
 use Rattle.laws.specs.Settled.{Settles}
-use Rattle.frames.specs.Values.{writingWord}
-use Rattle.frames.specs.Read.{readOf}
-use Rattle.frames.specs.Word.{wordOf, messageOf}
-use Rattle.frames.specs.Compose.{composeOf, composePowerOf}
-use Rattle.frames.specs.declared.message.Source.{Source}
 use Rattle.banks.specs.Map.{recordsOf}
-use Rattle.banks.specs.Rules.{checkTests, checkNumber}
+use Rattle.banks.specs.Rules.{checkTests}
 use Rattle.rooms.specs.Rules.{stateHolds}
 use Rattle.rooms.specs.declared.reply.Reply.{Reply}
 use Rattle.rooms.specs.declared.state.State.{State}
 use Rattle.unit.specs.Step.{startTests}
 use Rattle.unit.specs.Promises.{GivenBy}
+use Rattle.tracing.specs.declared.entry.Entry.{Entry}
 use Rattle.mirtofalko.specs.StateBytes.{flag, stateBytes, stateOf, shapeHolds}
-use Rattle.mirtofalko.specs.Answers.{replyWord, lookWord, writtenOf}
-use Rattle.mirtofalko.specs.Face.{Faced, frameFace, powerOnFace, startFace, Faces}
-use Rattle.looks.specs.Look.{lookOf}
+use Rattle.mirtofalko.specs.Answers.{replyWord, lookWord}
+use Rattle.mirtofalko.specs.Answers.{checkAnswer, lookAnswer, readAnswer, writeAnswer, eventAnswer, powerAnswer}
+use Rattle.mirtofalko.specs.Face.{Faced, frameFace, powerOnFace, startFace, Faces, RunFaced, runFace, RunFaces}
 use Rattle.looks.specs.declared.looked.Looked.{Looked}
 
 -- ---- a state as 96 bytes
 
--- what the types of a state can hold: the groups, the waiting frame and its clock have 32 bits, and there are eight staged
--- and eight latched bytes
+-- what the types of a state can hold: the groups, the waiting frame and its clock have 32 bits, and there are eight
+-- staged and eight latched bytes
 pub record StateHeld (s : State) : Type 0 where
   pub groups : s .who .groups < 2 ^ 32
   pub frame : s .waiting .frame < 2 ^ 32
@@ -90,10 +86,10 @@ powerOnTests map store kept bytes = checkTests map store kept ++ test 12 (bytesH
 pub record Numbered (map store image : List ℕ) : Type 0 where
   pub start : (address groups : ℕ) →
       GivenBy (startFace map store image address groups .reply .number)
-        (startTests map store (length image) (record { address = address; groups = groups }))
+      (startTests map store (length image) (record { address = address; groups = groups }))
   pub frame : (bytes : List ℕ) (frame clock : ℕ) →
       GivenBy (frameFace map store image bytes frame clock .reply .number)
-        (frameTests map store (length image) bytes frame)
+      (frameTests map store (length image) bytes frame)
   pub power-on : (bytes : List ℕ) →
       GivenBy (powerOnFace map store image bytes .reply .number) (powerOnTests map store (length image) bytes)
 
@@ -125,15 +121,21 @@ FacesRefused = (map store image : List ℕ) → Refused map store image
 abbrev pub SettlesFaced : Faced → Type 0
 SettlesFaced f = (a b : ℕ) (s t u v : List ℕ) → Faces a s u f → Faces b t v f → (a ≡ b) × (s ≡ t) × (u ≡ v)
 
+abbrev pub SettlesRun : RunFaced → Type 0
+SettlesRun f = (m n : ℕ) (s t u v o p before : List ℕ) → RunFaces m s u o before f → RunFaces n t v p before f →
+    (m ≡ n) × (s ≡ t) × (u ≡ v) × (o ≡ p)
+
 pub record Settled : Type 0 where
-  pub check : (map store : List ℕ) (kept : ℕ) → Settles (λ (r : ℕ). r ≡ checkNumber map store kept)
+  pub check : (map store image : List ℕ) → Settles (λ (r : ℕ). r ≡ checkAnswer map store image)
   pub start : (map store image : List ℕ) (address groups : ℕ) → SettlesFaced (startFace map store image address groups)
   pub frame : (map store image bytes : List ℕ) (frame clock : ℕ) →
       SettlesFaced (frameFace map store image bytes frame clock)
   pub power-on : (map store image bytes : List ℕ) → SettlesFaced (powerOnFace map store image bytes)
+  pub run : (map store image bytes : List ℕ) (es : List Entry) → SettlesRun (runFace map store image bytes es)
   pub look : (map store : List ℕ) (bank location : ℕ) →
-      Settles (λ (r : ℕ). r ≡ lookWord (lookOf map store bank location))
-  pub read : (frame : ℕ) → Settles (λ (r : ℕ). r ≡ wordOf (readOf frame))
-  pub write : (word : ℕ) → Settles (λ (r : ℕ). r ≡ writingWord (writtenOf (messageOf word)))
-  pub compose-event : (e : Source) → Settles (λ (r : ℕ). r ≡ writingWord (composeOf e))
-  pub compose-power : (short groups : ℕ) → Settles (λ (r : ℕ). r ≡ writingWord (composePowerOf short groups))
+      Settles (λ (r : ℕ). r ≡ lookAnswer map store bank location)
+  pub read : (frame : ℕ) → Settles (λ (r : ℕ). r ≡ readAnswer frame)
+  pub write : (word : ℕ) → Settles (λ (r : ℕ). r ≡ writeAnswer word)
+  pub compose-event : (sort number primary short groups information scheme : ℕ) →
+      Settles (λ (r : ℕ). r ≡ eventAnswer sort number primary short groups information scheme)
+  pub compose-power : (short groups : ℕ) → Settles (λ (r : ℕ). r ≡ powerAnswer short groups)

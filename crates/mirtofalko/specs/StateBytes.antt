@@ -67,11 +67,11 @@ stateOf b =
       registers = record { dtr0 = getD b 5 0; dtr1 = getD b 6 0; dtr2 = getD b 7 0 };
       waiting = record { held = flagAt b 8; frame = fourAt b 9; clock = fourAt b 13 };
       door =
-        record {
-          enabled = flagAt b 17;
-          staged =
-            record { count = getD b 18 0; bank = getD b 19 0; first = getD b 20 0; bytes = part 21 8 b };
-        };
+          record {
+            enabled = flagAt b 17;
+            staged =
+                record { count = getD b 18 0; bank = getD b 19 0; first = getD b 20 0; bytes = part 21 8 b };
+          };
       latch = record { held = flagAt b 29; bank = getD b 30 0; first = getD b 31 0; bytes = part 32 8 b };
     }
 

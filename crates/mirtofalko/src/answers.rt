@@ -2,9 +2,9 @@
 ghost use mathlib.Core.Path.{_≡_};
 ghost use Rattle.frames.specs.Values.{writingWord};
 ghost use Rattle.mirtofalko.specs.Answers.{refusal, replyWord, lookWord};
-use looks::Looked;
 use crate::state_bytes::flag;
 use frames::Writing;
+use looks::Looked;
 use rooms::Reply;
 
 pub fn reply_word(reply: Reply) -> u32
@@ -16,7 +16,11 @@ pub fn reply_word(reply: Reply) -> u32
 pub fn refusal_word(number: u8) -> u32
     ensures { λ r. ⌜ r ≡ replyWord (refusal number) ⌝ }
 {
-    number as u32
+    reply_word(Reply {
+        number: number,
+        answered: false,
+        answer: 0,
+    })
 }
 
 pub fn look_word(looked: Looked) -> u32

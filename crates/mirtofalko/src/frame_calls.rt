@@ -2,10 +2,8 @@
 ghost use mathlib.Core.Path.{_≡_};
 ghost use mathlib.Core.Bool.{true};
 ghost use Rattle.frames.specs.Values.{writingWord};
-ghost use Rattle.frames.specs.Read.{readOf};
-ghost use Rattle.frames.specs.Word.{wordOf, messageOf};
-ghost use Rattle.frames.specs.Compose.{composeOf, composePowerOf};
-ghost use Rattle.mirtofalko.specs.Answers.{writtenOf, source, fieldsHeld, Held};
+ghost use Rattle.mirtofalko.specs.Answers.{outOfRange, fieldsHeld, Held};
+ghost use Rattle.mirtofalko.specs.Answers.{readAnswer, writeAnswer, eventAnswer, powerAnswer};
 use crate::answers::writing_word;
 use frames::Reading;
 use frames::Source;
@@ -14,18 +12,25 @@ use frames::Writing;
 // The message word of a frame.
 #[no_mangle]
 pub extern "C" fn mf_read(frame: u32) -> u64
-    ensures { λ r. ⌜ r ≡ wordOf (readOf frame) ⌝ }
+    ensures { λ r. ⌜ r ≡ readAnswer frame ⌝ }
 {
     frames::word_of(frames::read(frame))
+}
+
+// 6: out of range.
+fn out_of_range() -> u32
+    ensures { λ r. ⌜ r ≡ writingWord outOfRange ⌝ }
+{
+    writing_word(Writing::Refused(6))
 }
 
 // The frame of a message word.
 #[no_mangle]
 pub extern "C" fn mf_write(word: u64) -> u32
-    ensures { λ r. ⌜ r ≡ writingWord (writtenOf (messageOf word)) ⌝ }
+    ensures { λ r. ⌜ r ≡ writeAnswer word ⌝ }
 {
     let Reading::Got(message) = frames::message_of(word) else {
-        return writing_word(Writing::Refused(6));
+        return out_of_range();
     };
     writing_word(frames::write(message))
 }
@@ -35,7 +40,11 @@ fn is_held(sort: u32, number: u32, primary: u32, short: u32, information: u32, s
     ensures same { λ r. ⌜ r ≡ fieldsHeld sort number primary short information scheme ⌝ }
     ensures facts { λ r. ⌜ (r ≡ true → Held sort number primary short information scheme) ⌝ }
 {
-    let bytes = (sort <= 255) & (number <= 255) & (primary <= 255) & (short <= 255) & (scheme <= 255);
+    let bytes = (sort <= 255)
+        & (number <= 255)
+        & (primary <= 255)
+        & (short <= 255)
+        & (scheme <= 255);
     bytes & (information <= 65535)
 }
 
@@ -50,10 +59,10 @@ pub extern "C" fn mf_compose_event(
     information: u32,
     scheme: u32,
 ) -> u32
-    ensures { λ r. ⌜ r ≡ writingWord (composeOf (source sort number primary short groups information scheme)) ⌝ }
+    ensures { λ r. ⌜ r ≡ eventAnswer sort number primary short groups information scheme ⌝ }
 {
     if !is_held(sort, number, primary, short, information, scheme) {
-        return writing_word(Writing::Refused(6));
+        return out_of_range();
     }
     let source = Source {
         sort: sort as u8,
@@ -70,10 +79,10 @@ pub extern "C" fn mf_compose_event(
 // The frame of a power event.
 #[no_mangle]
 pub extern "C" fn mf_compose_power(short: u32, groups: u32) -> u32
-    ensures { λ r. ⌜ r ≡ writingWord (composePowerOf short groups) ⌝ }
+    ensures { λ r. ⌜ r ≡ powerAnswer short groups ⌝ }
 {
     if short > 255 {
-        return writing_word(Writing::Refused(6));
+        return out_of_range();
     }
     writing_word(frames::compose_power(short as u8, groups))
 }

@@ -3,7 +3,6 @@ ghost use mathlib.Core.Path.{_≡_};
 ghost use Prim.Native.Nat.{_+_, _≤_};
 ghost use Rattle.laws.specs.Lists.{every};
 ghost use Rattle.laws.specs.Parts.{part, put};
-ghost use Rattle.tracing.specs.Entry.{fourBytes};
 ghost use Rattle.mirtofalko.specs.StateBytes.{flag, bytesOf, stateBytes, fourAt, stateOf, shapeHolds};
 ghost use lib.Dec.{eqb};
 ghost use lib.ListN.{length, drop};
@@ -14,18 +13,12 @@ use memory::Staged;
 use rooms::Door;
 use rooms::Registers;
 use rooms::State;
+use tracing::four_bytes;
 
 pub fn flag(b: bool) -> u8
     ensures { λ r. ⌜ r ≡ flag b ⌝ }
 {
     if b { 1 } else { 0 }
-}
-
-// Four bytes, high first, as a number.
-fn four_bytes(a: u8, b: u8, c: u8, d: u8) -> u32
-    ensures { λ r. ⌜ r ≡ fourBytes a b c d ⌝ }
-{
-    ((a as u32 * 256 + b as u32) * 256 + c as u32) * 256 + d as u32
 }
 
 // Internal: the four bytes from place i on.

@@ -2,13 +2,11 @@
 ghost use mathlib.Core.Path.{_≡_};
 ghost use mathlib.Core.Bool.{false};
 ghost use lib.ListN.{length};
-ghost use Rattle.banks.specs.Rules.{checkNumber};
 ghost use Rattle.rooms.specs.Rules.{addressHolds};
 ghost use Rattle.tracing.specs.Entry.{entries};
 ghost use Rattle.tracing.specs.Run.{roomFor};
-ghost use Rattle.mirtofalko.specs.Answers.{lookWord};
+ghost use Rattle.mirtofalko.specs.Answers.{checkAnswer, lookAnswer};
 ghost use Rattle.mirtofalko.specs.Face.{shapeNumber, startFace, frameFace, powerOnFace, Faces, runFace, RunFaces};
-ghost use Rattle.looks.specs.Look.{lookOf};
 use crate::answers::look_word;
 use crate::answers::refusal_word;
 use crate::answers::reply_word;
@@ -22,7 +20,7 @@ use rooms::State;
 // The number of map, store and reset image: 7 to 11, or 0.
 #[no_mangle]
 pub extern "C" fn mf_check(map: &[u8], store: &[u8], image: &[u8]) -> u32
-    ensures { λ r. ⌜ r ≡ checkNumber (now (map .entry)) (now (store .entry)) (length (now (image .entry))) ⌝ }
+    ensures { λ r. ⌜ r ≡ checkAnswer (now (map .entry)) (now (store .entry)) (now (image .entry)) ⌝ }
 {
     banks::check(map, store, image) as u32
 }
@@ -30,7 +28,7 @@ pub extern "C" fn mf_check(map: &[u8], store: &[u8], image: &[u8]) -> u32
 // Number, width and store offset of the value that begins at the bank and location.
 #[no_mangle]
 pub extern "C" fn mf_look(map: &[u8], store: &[u8], bank: u8, location: u8) -> u32
-    ensures { λ r. ⌜ r ≡ lookWord (lookOf (now (map .entry)) (now (store .entry)) bank location) ⌝ }
+    ensures { λ r. ⌜ r ≡ lookAnswer (now (map .entry)) (now (store .entry)) bank location ⌝ }
 {
     look_word(looks::look_at(map, store, bank, location))
 }
@@ -96,7 +94,12 @@ pub extern "C" fn mf_frame(
 
 // A later power-on.
 #[no_mangle]
-pub extern "C" fn mf_power_on(map: &[u8], store: &mut [u8], image: &[u8], state: &mut [u8; 96]) -> u32
+pub extern "C" fn mf_power_on(
+    map: &[u8],
+    store: &mut [u8],
+    image: &[u8],
+    state: &mut [u8; 96],
+) -> u32
     ensures { λ r. ⌜ Faces r (now (state .exit)) (now (store .exit)) (powerOnFace (now (map .entry)) (now (store .entry)) (now (image .entry)) (now (state .entry))) ⌝ }
 {
     let bytes = *state;
@@ -108,7 +111,6 @@ pub extern "C" fn mf_power_on(map: &[u8], store: &mut [u8], image: &[u8], state:
     *state = after;
     reply_word(stepped.reply)
 }
-
 
 // A state that breaks the rule of the address.
 fn unfit(state: State) -> State

@@ -1,24 +1,25 @@
 -- The bench sheet's traces: the records' bytes are the sheet's inputs, which the unit's sheet runs.
 -- Assumes nothing.
-use Prim.Native.Nat.{ℕ, _<_, _%_}
+use Prim.Native.Nat.{ℕ, _%_}
 use mathlib.Core.Path.{_≡_, refl, sym, _∙_}
-use mathlib.Core.Bool.{Bool, true, false}
 use mathlib.Core.List.{List, [], _∷_, _++_, map}
 use mathlib.Core.Logic.{⊎-elim}
 use native.Mathlib.Nat.{eq-zero-or-pos}
 use native.Mathlib.Omega.{arith}
 use borrow.Author.Tests.{eq-eqb}
 use lib.ListN.{length}
+use Rattle.laws.specs.Choice.{if_then_else_}
+use Rattle.laws.specs.Lists.{some}
+use Rattle.frames.specs.Bench.{Case, sheet as framesSheet}
 use Rattle.banks.specs.Rules.{checkNumber}
-use Rattle.frames.specs.Bench.{Case}
-use Rattle.frames.specs.Bench.{sheet as framesSheet}
-use Rattle.unit.specs.Run.{runOf}
-use Rattle.unit.specs.Bench.{benchMap, benchStore, benchImage, benchWho, Line, says, Runs, Hold, p11, p12, late, overrun}
+use Rattle.unit.specs.Run.{Input, runOf}
+use Rattle.unit.specs.Bench.{benchMap, benchStore, benchImage, benchWho, benchRun, p11, p12, late, overrun}
+use Rattle.unit.specs.Bench.{Line, says, Runs, Hold}
 use Rattle.unit.proofs.Bench.{sheet-holds}
 use Rattle.unit.proofs.Numbers.{calls-numbered, tests-in-order}
-use Rattle.tracing.specs.Entry.{entryOf, entryAt, wholeRecords}
-use Rattle.tracing.specs.Trace.{tracedOf, whoOf, fileNumber, closed, tracedFrom, traceOf}
-use Rattle.tracing.specs.Bench.{benchAdr, p11Records, p12Records, p12Output, benchTrace, BenchTraces}
+use Rattle.tracing.specs.Entry.{entryOf, entryAt, wholeRecords, isBroken}
+use Rattle.tracing.specs.Trace.{inputsOf, broken, tracedOf, whoOf, fileNumber, closed, traceOf}
+use Rattle.tracing.specs.Bench.{benchAdr, p11Records, benchTrace, BenchTraces, BenchFiles}
 use Rattle.tracing.proofs.Starts.{files-numbered}
 
 -- the runs' lines stand behind the frames'
@@ -36,9 +37,28 @@ checked =
     ⊎-elim (λ z. z) (λ h. absurd (omega (arith, tests-in-order benchMap benchStore 6 .start-first benchWho h)))
     (eq-zero-or-pos (checkNumber benchMap benchStore 6))
 
-accepted : fileNumber benchMap benchStore 6 benchAdr ≡ 0
+-- the files are the sheet's
+files-who : whoOf benchAdr ≡ benchWho
 unfolding whoOf
-accepted = files-numbered benchMap benchStore 6 benchAdr .last checked
+files-who = refl
+
+accepted : fileNumber benchMap benchStore 6 benchAdr ≡ 0
+accepted = files-numbered benchMap benchStore 6 benchAdr .last checked ∙ rw files-who
+
+-- records whose inputs are those of a line: what the line writes, 13 for a record of unknown kind or an unfinished one, and
+-- the line's store
+module _ (records : List ℕ) {inputs : List Input} {output store : List ℕ}
+    (e : inputsOf (wholeRecords records) ≡ inputs) (r : Runs inputs output store) where
+  bench : benchTrace benchAdr records
+      ≡ closed (length records % 8)
+      (record {
+        output = output ++ (if some isBroken (wholeRecords records) then broken else []);
+        ended = some isBroken (wholeRecords records);
+        state = benchRun inputs .state;
+        store = store;
+      })
+  unfolding traceOf tracedOf runOf
+  bench = rw (eq-eqb (fileNumber benchMap benchStore 6 benchAdr) 0 accepted, files-who, e, r .writes, r .leaves)
 
 -- an address file that is refused
 refused : (adr : List ℕ) → fileNumber benchMap benchStore 6 adr ≡ 6 → benchTrace adr p11Records ≡ 6 ∷ 0 ∷ 0 ∷ 0 ∷ []
@@ -46,16 +66,20 @@ unfolding traceOf
 refused adr e = rw e
 
 pub bench-traces : BenchTraces
-unfolding traceOf tracedOf whoOf entryOf entryAt runOf
+unfolding whoOf entryOf entryAt
 bench-traces =
     let a = lines .0 in
     let b = lines .1 .0 in
     record {
-      p11 = rw (eq-eqb (fileNumber benchMap benchStore 6 benchAdr) 0 accepted, a .writes, a .leaves);
-      p12 = rw (eq-eqb (fileNumber benchMap benchStore 6 benchAdr) 0 accepted, b .writes, b .leaves);
-      unfinished = rw (eq-eqb (fileNumber benchMap benchStore 6 benchAdr) 0 accepted, b .writes, b .leaves);
-      unknown = rw (eq-eqb (fileNumber benchMap benchStore 6 benchAdr) 0 accepted, b .writes, b .leaves);
+      p11 = bench _ refl a;
+      p12 = bench _ refl b;
+      unfinished = bench _ refl b;
+      unknown = bench _ refl b;
       short-adr = refused _ (files-numbered benchMap benchStore 6 _ .last checked);
       long-adr = refused _ (files-numbered benchMap benchStore 6 _ .last checked);
       bad-address = refused _ (files-numbered benchMap benchStore 6 _ .last checked);
     }
+
+pub bench-files : BenchFiles
+unfolding entryOf entryAt whoOf
+bench-files = record { hears = refl; power-on = refl; unknown = refl; who = refl }

@@ -26,7 +26,7 @@ use Rattle.unit.proofs.Numbers.{calls-accepted, calls-refused, tests-in-order}
 use Rattle.unit.proofs.Accepted.{accepted-again}
 use Rattle.tracing.specs.Entry.{isBroken, isFramed}
 use Rattle.tracing.specs.Run.{turnOf}
-use Rattle.tracing.specs.Promises.{One-check}
+use Rattle.tracing.specs.Promises.{OneCheck}
 use Rattle.tracing.specs.declared.entry.Entry.{Entry}
 
 module _ (map store : List ℕ) (kept : ℕ) (s : State) where
@@ -54,7 +54,7 @@ module _ (map store : List ℕ) (kept : ℕ) (s : State) where
       go n true p q = absurd (omega arith)
       go n false p q = q ∙ sym p
 
-pub one-check : One-check
+pub one-check : OneCheck
 unfolding turnOf refusing
 one-check map image store s (Entry.Hears heard) framed =
     let again = accepted-again map store image in
@@ -62,8 +62,9 @@ one-check map image store s (Entry.Hears heard) framed =
     ⊎-elim
     (λ z. again .step s heard (again .next s (heard .frame) z (ltb-true (heard .frame) 16777216 framed)) ∙ sym z)
     (λ h.
-        let r = calls-refused map store image n h .step s heard (step-refused map store (length image) s (heard .frame) h) in
-        rw (r .state-stays, r .store-stays))
+    let same = step-refused map store (length image) s (heard .frame) h in
+    let r = calls-refused map store image n h .step s heard same in
+    rw (r .state-stays, r .store-stays))
     (eq-zero-or-pos n)
 one-check map image store s Entry.PowerOn framed =
     let again = accepted-again map store image in
@@ -75,7 +76,8 @@ one-check map image store s Entry.PowerOn framed =
 one-check map image store s Entry.Broken framed = refl
 
 -- what the check's number says of a record's step
-module _ (map image store : List ℕ) (s : State) (e : Entry) (n : ℕ) (checked : n ≡ powerNumber map store (length image) s) where
+module _ (map image store : List ℕ) (s : State) (e : Entry) (n : ℕ)
+    (checked : n ≡ powerNumber map store (length image) s) where
   -- not 0: the public call would refuse with it
   pub turn-refused : isBroken e ≡ false → (n ≡ 0 → ⊥) → (r : Stepped) → r ≡ refusing s n
       → Gives r store (turnOf map image store s e)
@@ -102,6 +104,7 @@ module _ (map image store : List ℕ) (s : State) (e : Entry) (n : ℕ) (checked
       let accepted = accepted-again map store image .next s (heard .frame) (sym checked ∙ z) small in
       rw q (calls-accepted map store image .step s heard accepted)
 
-  pub turn-powers : e ≡ Entry.PowerOn → n ≡ 0 → turnOf map image store s e ≡ powerOf (recordsOf map) store image (s .who)
+  pub turn-powers : e ≡ Entry.PowerOn → n ≡ 0
+      → turnOf map image store s e ≡ powerOf (recordsOf map) store image (s .who)
   unfolding turnOf
   turn-powers q z = rw q (calls-accepted map store image .power-on s (sym checked ∙ z))

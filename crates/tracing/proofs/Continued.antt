@@ -15,7 +15,7 @@ use Rattle.unit.specs.Run.{power-on, hears, inputOf, outputOf}
 use Rattle.tracing.specs.Entry.{isBroken}
 use Rattle.tracing.specs.Trace.{Traced, tracedOf, broken, closed}
 use Rattle.tracing.specs.Run.{behind, continued}
-use Rattle.tracing.specs.Promises.{One-after-other, answered, Four-each, Thirteen-ends}
+use Rattle.tracing.specs.Promises.{OneAfterOther, answered, FourEach, ThirteenEnds}
 use Rattle.tracing.specs.declared.entry.Entry.{Entry}
 
 module _ (map image : List ℕ) where
@@ -79,7 +79,8 @@ module _ (map image : List ℕ) where
   continued-none t = go (t .ended) refl
     where
       go : (b : Bool) → t .ended ≡ b
-          → (if b then t else record { output = t .output ++ []; ended = false; state = t .state; store = t .store }) ≡ t
+          → (if b then t else record { output = t .output ++ []; ended = false; state = t .state; store = t .store })
+          ≡ t
       go true q = refl
       go false q = rw (append-nil, ← q)
 
@@ -88,10 +89,10 @@ module _ (map image : List ℕ) where
   unfolding continued
   continued-ended t es e = rw e
 
-pub one-after-other : One-after-other
+pub one-after-other : OneAfterOther
 one-after-other map image = after-other map image
 
-pub four-each : Four-each
+pub four-each : FourEach
 unfolding tracedOf outputOf
 four-each map image store s [] = refl
 four-each map image store s (Entry.Hears heard ∷ es) =
@@ -116,13 +117,14 @@ unfinished map image t rest h = go (t .ended) refl
     go true q = rw q
     go false q = rw (ne-eqb rest 0 (λ z. omega arith), append-nil)
 
-pub thirteen-ends : Thirteen-ends
+pub thirteen-ends : ThirteenEnds
 unfolding tracedOf continued
 thirteen-ends map image store s es =
     record {
       writes = λ q. after-other map image store s es (Entry.Broken ∷ []) ∙ rw q;
       ends = λ fs.
-          after-other map image store s es (Entry.Broken ∷ fs) ∙ sym (after-other map image store s es (Entry.Broken ∷ []));
+          after-other map image store s es (Entry.Broken ∷ fs)
+          ∙ sym (after-other map image store s es (Entry.Broken ∷ []));
       tail = λ rest h.
           unfinished map image (tracedOf map image store s es) rest h
           ∙ ap (closed 0) (sym (after-other map image store s es (Entry.Broken ∷ [])));

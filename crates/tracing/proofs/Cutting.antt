@@ -17,7 +17,7 @@ use Rattle.tracing.proofs.Sequences.{items-same, items-append}
 use Rattle.tracing.specs.Entry.{entryAt, entries, wholeRecords}
 use Rattle.tracing.specs.Trace.{Traced, tracedOf, whoOf, fileNumber, closed, traceOf}
 use Rattle.tracing.specs.Run.{continued}
-use Rattle.tracing.specs.Promises.{Records-joined, begun, inSlices, joined, isWhole, Cut-anywhere}
+use Rattle.tracing.specs.Promises.{RecordsJoined, begun, inSlices, joined, isWhole, CutAnywhere}
 use Rattle.tracing.proofs.Continued.{continued-more, continued-none}
 
 -- the same eight bytes are the same entry
@@ -26,10 +26,20 @@ entry-same : (a b : List ℕ) (i j : ℕ) → ((c : ℕ) → c < 8 → getD a (8
 unfolding entryAt
 entry-same a b i j h =
     let first : getD a (8 * i) 0 ≡ getD b (8 * j) 0 =
-      ap (λ (k : ℕ). getD a k 0) (sym (add-zero (8 * i))) ∙ h 0 (omega arith) ∙ ap (λ (k : ℕ). getD b k 0) (add-zero (8 * j)) in
-    rw (first, h 1 (omega arith), h 2 (omega arith), h 3 (omega arith), h 4 (omega arith), h 5 (omega arith), h 6 (omega arith), h 7 (omega arith))
+    ap (λ (k : ℕ). getD a k 0) (sym (add-zero (8 * i))) ∙ h 0 (omega arith)
+    ∙ ap (λ (k : ℕ). getD b k 0) (add-zero (8 * j)) in
+    rw (
+      first,
+      h 1 (omega arith),
+      h 2 (omega arith),
+      h 3 (omega arith),
+      h 4 (omega arith),
+      h 5 (omega arith),
+      h 6 (omega arith),
+      h 7 (omega arith),
+    )
 
-pub records-joined : Records-joined
+pub records-joined : RecordsJoined
 records-joined a b k n e = items-append (entryAt (a ++ b)) k n 0 ∙ front ∙ back
   where
     front : items (entryAt (a ++ b)) 0 k ++ items (entryAt (a ++ b)) (0 + k) n
@@ -37,15 +47,15 @@ records-joined a b k n e = items-append (entryAt (a ++ b)) k n 0 ∙ front ∙ b
     front =
         ap (λ (es : List _). es ++ items (entryAt (a ++ b)) (0 + k) n)
         (items-same (entryAt (a ++ b)) (entryAt a) k 0 0 (λ i h.
-            entry-same (a ++ b) a (0 + i) (0 + i) (λ c l. List·getD-append a b 0 (8 * (0 + i) + c) (omega arith))))
+        entry-same (a ++ b) a (0 + i) (0 + i) (λ c l. List·getD-append a b 0 (8 * (0 + i) + c) (omega arith))))
 
     back : entries a k ++ items (entryAt (a ++ b)) (0 + k) n ≡ entries a k ++ entries b n
     back =
         ap (λ (es : List _). entries a k ++ es)
         (items-same (entryAt (a ++ b)) (entryAt b) n (0 + k) 0 (λ i h.
-            entry-same (a ++ b) b (0 + k + i) (0 + i) (λ c l.
-                let q : 8 * (0 + k + i) + c ≡ length a + (8 * (0 + i) + c) = omega arith in
-                ap (λ (m : ℕ). getD (a ++ b) m 0) q ∙ getD-append-add a b (8 * (0 + i) + c) 0)))
+        entry-same (a ++ b) b (0 + k + i) (0 + i) (λ c l.
+        let q : 8 * (0 + k + i) + c ≡ length a + (8 * (0 + i) + c) = omega arith in
+        ap (λ (m : ℕ). getD (a ++ b) m 0) q ∙ getD-append-add a b (8 * (0 + i) + c) 0)))
 
 -- a slice of whole records and what follows it
 whole-joined : (a b : List ℕ) → length a % 8 ≡ 0 → wholeRecords (a ++ b) ≡ wholeRecords a ++ wholeRecords b
@@ -76,7 +86,7 @@ begun-continued : (map image store : List ℕ) (s : State) (es : List _)
 unfolding continued
 begun-continued map image store s es = refl
 
-pub cut-anywhere : Cut-anywhere
+pub cut-anywhere : CutAnywhere
 unfolding traceOf
 cut-anywhere map store image adr slices rest h short z =
     let o = startOf map store image (whoOf adr) in
@@ -84,7 +94,7 @@ cut-anywhere map store image adr slices rest h short z =
     let left : length (joined slices ++ rest) % 8 ≡ length rest = omega (arith, length-append (joined slices) rest) in
     let none : length rest / 8 ≡ 0 = omega arith in
     let same : wholeRecords (joined slices ++ rest) ≡ wholeRecords (joined slices) =
-      whole-joined (joined slices) rest whole ∙ rw (none, append-nil) in
+    whole-joined (joined slices) rest whole ∙ rw (none, append-nil) in
     let all = in-slices map image (begun (o .store) (o .answer .state)) slices h
-        ∙ begun-continued map image (o .store) (o .answer .state) (wholeRecords (joined slices)) in
+    ∙ begun-continued map image (o .store) (o .answer .state) (wholeRecords (joined slices)) in
     rw (eq-eqb (fileNumber map store (length image) adr) 0 z, left, same, all)

@@ -10,6 +10,6 @@ use Rattle.tracing.specs.Entry.{entryOf, isFramed}
 pub framed-of : (kind clock frame : ℕ) → frame < 16777216 → isFramed (entryOf kind clock frame) ≡ true
 unfolding entryOf
 framed-of kind clock frame h =
-    if-eq (λ e. isFramed e ≡ true) kind 0
+    if-eq (λ e. isFramed e ≡ true) kind _
     (λ z. lt-ltb frame 16777216 h)
-    (λ z. if-eq (λ e. isFramed e ≡ true) kind 1 (λ y. refl) (λ y. refl))
+    (λ z. if-eq (λ e. isFramed e ≡ true) kind _ (λ y. refl) (λ y. refl))

@@ -14,7 +14,7 @@ module _ {A : Type 0} where
   items-same f g (suc n) i j h =
       let head : f i ≡ g j = ap f (sym (add-zero i)) ∙ h 0 (omega arith) ∙ ap g (add-zero j) in
       let tail = items-same f g n (suc i) (suc j) (λ k l.
-          ap f (suc-add i k ∙ sym (add-suc i k)) ∙ h (suc k) (omega arith) ∙ ap g (add-suc j k ∙ sym (suc-add j k))) in
+      ap f (suc-add i k ∙ sym (add-suc i k)) ∙ h (suc k) (omega arith) ∙ ap g (add-suc j k ∙ sym (suc-add j k))) in
       rw (head, tail)
 
   -- m items and n more

@@ -1,19 +1,28 @@
--- What follows from a run's promise: two results that meet it are equal, and what is answered lies within the output.
+-- Two results that meet a promise are equal; and what a run answers lies within the output.
 -- Assumes nothing.
 use Prim.Native.Nat.{ℕ, _*_, _≤_}
 use mathlib.Core.Path.{_≡_, ap, sym, _∙_}
 use mathlib.Core.List.{List}
 use native.Mathlib.Omega.{arith}
 use lib.ListN.{length, length-append, length-drop}
-use Rattle.tracing.specs.Trace.{Traced}
+use Rattle.laws.proofs.Settled.{settles}
+use Rattle.tracing.specs.Trace.{Traced, whoOf}
 use Rattle.tracing.specs.Run.{Runs}
-use Rattle.tracing.specs.Promises.{Run-settled}
+use Rattle.tracing.specs.Promises.{RunSettled, EntrySettled, WhoSettled}
 use Rattle.tracing.specs.declared.records.Ran.{Ran}
 
-pub run-settled : Run-settled
-run-settled t before q r store stored output written p s =
-    (rw (p .state ∙ sym (s .state), p .ended ∙ sym (s .ended), p .count ∙ sym (s .count)), p .leaves ∙ sym (s .leaves),
-    p .writes ∙ sym (s .writes))
+pub run-settled : RunSettled
+run-settled t before q r store stored output written p s = (
+  rw (p .state ∙ sym (s .state), p .ended ∙ sym (s .ended), p .count ∙ sym (s .count)),
+  p .leaves ∙ sym (s .leaves),
+  p .writes ∙ sym (s .writes),
+)
+
+pub entry-settled : EntrySettled
+entry-settled bytes i q r p s = p .is ∙ sym (s .is)
+
+pub who-settled : WhoSettled
+who-settled adr = settles (whoOf adr)
 
 pub answers-within : (r : Ran) (store output before : List ℕ) (t : Traced) → Runs r store output before t
     → length output ≡ length before → 4 * r .count ≤ length output

@@ -1,4 +1,4 @@
--- The numbers of the files: exactly if, in their order, and one byte more than a limit is enough to see that a file is longer.
+-- The numbers of the files: exactly if, in their order; one byte more than a limit is enough to see that a file is longer.
 -- Assumes nothing.
 use Prim.Native.Nat.{ℕ, suc, _%_, _<_}
 use mathlib.Core.Path.{_≡_, refl, ap, sym, _∙_}
@@ -13,7 +13,7 @@ use lib.ListN.{length, take}
 use lib.Seq.{take-all, length-take-le}
 use Rattle.laws.specs.Choice.{if_then_else_}
 use Rattle.laws.specs.Lists.{every}
-use Rattle.laws.specs.Numbers.{Test, test, firstFailing}
+use Rattle.laws.specs.Numbers.{test, firstFailing}
 use Rattle.laws.proofs.Joined.{joined-none, joined-some}
 use Rattle.laws.proofs.Numbers.{exactly-if, none-exactly-if}
 use Rattle.laws.proofs.Settled.{settles}
@@ -22,29 +22,26 @@ use Rattle.banks.specs.Rules.{sizeHolds, fieldsHold, rising, lengthsHold, place
 use Rattle.hearing.specs.declared.rooms.Who.{Who}
 use Rattle.rooms.specs.Rules.{addressHolds}
 use Rattle.unit.specs.Step.{startNumber}
-use Rattle.tracing.specs.Trace.{whoOf, fileTests, fileNumber, traceOf}
-use Rattle.tracing.specs.Promises.{Files-numbered, Files-settled, One-byte-more}
+use Rattle.tracing.specs.Trace.{whoOf, adrTests, fileTests, fileNumber, traceOf}
+use Rattle.tracing.specs.Promises.{FilesNumbered, FilesSettled, OneByteMore}
 
-pub files-settled : Files-settled
+pub files-settled : FilesSettled
 files-settled map store kept adr = settles (fileNumber map store kept adr)
 
--- 6, behind 7 to 11
-abbrev behindChecks : List ℕ → List Test
-behindChecks adr = test 6 (eqb (length adr) 5 && addressHolds (whoOf adr .address)) ∷ []
-
-pub files-numbered : Files-numbered
+pub files-numbered : FilesNumbered
 unfolding fileNumber checkNumber startNumber firstFailing
 files-numbered map store kept adr =
     record {
       exactly =
-        record {
-          exactly-if = exactly-if (fileTests map store kept adr);
-          none-exactly-if = none-exactly-if (fileTests map store kept adr) refl;
-        };
-      first = λ h. joined-some (checkTests map store kept) (behindChecks adr) (checkNumber map store kept) h refl;
-      last = λ z. joined-none (checkTests map store kept) (behindChecks adr) refl z;
+          record {
+            exactly-if = exactly-if (fileTests map store kept adr);
+            none-exactly-if = none-exactly-if (fileTests map store kept adr) refl;
+          };
+      first = λ h. joined-some (checkTests map store kept) (adrTests adr) (checkNumber map store kept) h refl;
+      last = λ z. joined-none (checkTests map store kept) (adrTests adr) refl z;
       start = λ e.
-          ap (λ (b : Bool). firstFailing (checkTests map store kept ++ test 6 (b && addressHolds (whoOf adr .address)) ∷ []))
+          ap
+          (λ (b : Bool). firstFailing (checkTests map store kept ++ test 6 (b && addressHolds (whoOf adr .address)) ∷ []))
           (eq-eqb (length adr) 5 e);
     }
 
@@ -54,7 +51,8 @@ module _ (map store : List ℕ) (kept : ℕ) (adr : List ℕ) (n : ℕ) (e : n �
   checks-refuse h = e ∙ sym (files-numbered map store kept adr .first (omega arith))
 
   pub adr-decides : n ≡ 0 → (who : Who) → who ≡ whoOf adr → (holds : Bool) → holds ≡ addressHolds (who .address)
-      → (passes : Bool) → (eqb (length adr) 5 && holds) ≡ passes → (if passes then 0 else 6) ≡ fileNumber map store kept adr
+      → (passes : Bool) → (eqb (length adr) 5 && holds) ≡ passes
+      → (if passes then 0 else 6) ≡ fileNumber map store kept adr
   adr-decides z who w holds h passes p =
       let same : passes ≡ (eqb (length adr) 5 && addressHolds (whoOf adr .address)) = sym p ∙ rw (h, w) in
       rw same (sym (files-numbered map store kept adr .last (sym e ∙ z)))
@@ -146,20 +144,23 @@ module _ (map store image adr input : List ℕ) where
       → traceOf map (take 4097 store) (take 4097 image) (take 6 adr) input ≡ traceOf map store image adr input
   both-long h k =
       both-refused map store image adr map (take 4097 store) (take 4097 image) (take 6 adr) input (mapTenth map)
-      (tenth-some (sizeHolds (length map)) (every fieldsHold (recordsOf map)) (rising (recordsOf map))) (long-store map _ _ _ h) (long-store map _ _ _ k)
+      (tenth-some (sizeHolds (length map)) (every fieldsHold (recordsOf map)) (rising (recordsOf map)))
+      (long-store map _ _ _ h) (long-store map _ _ _ k)
 
   cut-stored : traceOf map (take 4097 store) (take 4097 image) (take 6 adr) input ≡ traceOf map store image adr input
   cut-stored =
       ⊎-elim
-      (λ e. ⊎-elim (λ f. rw e (rw f cut-adr)) (λ k. both-long (inr (omega arith)) (inr (k .0))) (whole-or-longer 4096 image))
+      (λ e.
+      ⊎-elim (λ f. rw e (rw f cut-adr)) (λ k. both-long (inr (omega arith)) (inr (k .0))) (whole-or-longer 4096 image))
       (λ k. both-long (inl (omega arith)) (inl (k .0)))
       (whole-or-longer 4096 store)
 
-pub one-byte-more : One-byte-more
+pub one-byte-more : OneByteMore
 one-byte-more map store image adr input =
     ⊎-elim
     (λ e. rw e (cut-stored map store image adr input))
     (λ k.
-        both-refused map store image adr (take 513 map) (take 4097 store) (take 4097 image) (take 6 adr) input 7 (omega arith)
-        (long-map (take 513 map) _ _ _ (omega arith)) (long-map map _ _ _ (k .0)))
+    both-refused map store image adr (take 513 map) (take 4097 store) (take 4097 image) (take 6 adr) input 7
+    (omega arith)
+    (long-map (take 513 map) _ _ _ (omega arith)) (long-map map _ _ _ (k .0)))
     (whole-or-longer 512 map)

@@ -33,11 +33,11 @@ use Rattle.tracing.proofs.Written.{front-put, back-put}
 turn-traced : (map image store : List ℕ) (s : State) (e : Entry)
     → tracedOf map image store s (e ∷ [])
     ≡ record {
-        output = outputOf (turnOf map image store s e .answer .reply);
-        ended = isBroken e;
-        state = turnOf map image store s e .answer .state;
-        store = turnOf map image store s e .store;
-      }
+      output = outputOf (turnOf map image store s e .answer .reply);
+      ended = isBroken e;
+      state = turnOf map image store s e .answer .state;
+      store = turnOf map image store s e .store;
+    }
 unfolding tracedOf turnOf inputOf outputOf refusing
 turn-traced map image store s (Entry.Hears heard) = refl
 turn-traced map image store s Entry.PowerOn = refl
@@ -58,35 +58,45 @@ module _
     (ended : Bool)
     (ends : ended ≡ isBroken e)
   where
-  front : take (4 * (r .count + 1)) written ≡ take (4 * r .count) output ++ outputOf (d .reply)
-  unfolding outputOf
-  front =
-      let room = begins .room-there in
-      let four : 4 * (r .count + 1) ≡ 4 * r .count + 4 = omega arith in
-      rw (puts, four) (front-put (4 * r .count) (outputOf (d .reply)) output room)
+    front : take (4 * (r .count + 1)) written ≡ take (4 * r .count) output ++ outputOf (d .reply)
+    unfolding outputOf
+    front =
+        let room = begins .room-there in
+        let four : 4 * (r .count + 1) ≡ 4 * r .count + 4 = omega arith in
+        rw (puts, four) (front-put (4 * r .count) (outputOf (d .reply)) output room)
 
-  back : drop (4 * (r .count + 1)) written ≡ drop (4 * (r .count + 1)) output
-  unfolding outputOf
-  back =
-      let room = begins .room-there in
-      let four : 4 * (r .count + 1) ≡ 4 * r .count + 4 = omega arith in
-      rw (puts, four) (back-put (4 * r .count) (outputOf (d .reply)) output room)
+    back : drop (4 * (r .count + 1)) written ≡ drop (4 * (r .count + 1)) output
+    unfolding outputOf
+    back =
+        let room = begins .room-there in
+        let four : 4 * (r .count + 1) ≡ 4 * r .count + 4 = omega arith in
+        rw (puts, four) (back-put (4 * r .count) (outputOf (d .reply)) output room)
 
-  does : soFar (record { state = d .state; count = r .count + 1; ended = ended }) after written
-      ≡ continued map image (soFar r store output) (entryAt records (r .count) ∷ [])
-  unfolding soFar continued
-  does =
-      rw (begins .goes-on, ← reads .is, turn-traced map image store (r .state) e, ← gives .answer, ← gives .store, front, ends)
+    does : soFar (record { state = d .state; count = r .count + 1; ended = ended }) after written
+        ≡ continued map image (soFar r store output) (entryAt records (r .count) ∷ [])
+    unfolding soFar continued
+    does =
+        rw (
+          begins .goes-on,
+          ← reads .is,
+          turn-traced map image store (r .state) e,
+          ← gives .answer,
+          ← gives .store,
+          front,
+          ends,
+        )
 
-  pub turns : Turns r (record { state = d .state; count = r .count + 1; ended = ended }) map store after image records output written number
-  turns =
-      record {
-        one-more = refl;
-        does = does;
-        rest-stays = back;
-        still-checked =
-          begins .checked ∙ sym (one-check map image store (r .state) e (reads .framed)) ∙ rw (← gives .answer, ← gives .store);
-      }
+    pub turns : Turns r (record { state = d .state; count = r .count + 1; ended = ended }) map store after image
+        records output written number
+    turns =
+        record {
+          one-more = refl;
+          does = does;
+          rest-stays = back;
+          still-checked =
+              begins .checked ∙ sym (one-check map image store (r .state) e (reads .framed))
+              ∙ rw (← gives .answer, ← gives .store);
+        }
 
 -- whole records that the output has room for are there, and so is the room
 room-there : (records output n : ℕ) → n ≡ roomFor records output → (8 * n ≤ records) × (4 * n ≤ output)
@@ -101,7 +111,8 @@ pub one-left : (r : Ran) (n : ℕ) → (ltb (r .count) n && not (r .ended)) ≡ 
 one-left r n h = ltb-true (r .count) n (both (ltb (r .count) n) (not (r .ended)) h .0)
 
 -- what holds from turn to turn
-pub record Goes (map image records stored before store output : List ℕ) (s : State) (n number : ℕ) (r : Ran) : Type 0 where
+pub record Goes (map image records stored before store output : List ℕ) (s : State) (n number : ℕ) (r : Ran)
+    : Type 0 where
   pub within : r .count ≤ n
   pub records-there : 8 * n ≤ length records
   pub room : 4 * n ≤ length before
@@ -133,7 +144,8 @@ module _ (map image records stored before : List ℕ) (s : State) (n number : �
         whole = ap (tracedOf map image stored s) (items-start (entryAt records) n);
       }
 
-  module _ (store output : List ℕ) (r : Ran) (goes : Goes map image records stored before store output s n number r) where
+  module _ (store output : List ℕ) (r : Ran)
+      (goes : Goes map image records stored before store output s n number r) where
     -- a turn may begin
     pub begins : (ltb (r .count) n && not (r .ended)) ≡ true → Begins r map store image records output number
     begins h =
@@ -161,34 +173,44 @@ module _ (map image records stored before : List ℕ) (s : State) (n number : �
           store-as-long = a ∙ goes .store-as-long;
           output-as-long = w ∙ goes .output-as-long;
           checked = t .still-checked;
-          rest = t .rest-stays ∙ rw (four, ← drop-drop 4 (4 * r .count) output, ← drop-drop 4 (4 * r .count) before, goes .rest);
+          rest =
+              t .rest-stays
+              ∙ rw (four, ← drop-drop 4 (4 * r .count) output, ← drop-drop 4 (4 * r .count) before, goes .rest);
           whole =
-            goes .whole
-            ∙ ap (continued map image (soFar r store output)) (items-cons (entryAt records) (r .count) n more _ refl)
-            ∙ continued-more map image (soFar r store output) (entryAt records (r .count) ∷ []) (from (r .count + 1))
-            ∙ ap (λ (u : Traced). continued map image u (from (r .count + 1))) (sym (t .does))
-            ∙ ap (λ (k : ℕ). continued map image (soFar next after written) (from k)) (sym one);
+              goes .whole
+              ∙ ap (continued map image (soFar r store output)) (items-cons (entryAt records) (r .count) n more _ refl)
+              ∙ continued-more map image (soFar r store output) (entryAt records (r .count) ∷ []) (from (r .count + 1))
+              ∙ ap (λ (u : Traced). continued map image u (from (r .count + 1))) (sym (t .does))
+              ∙ ap (λ (k : ℕ). continued map image (soFar next after written) (from k)) (sym one);
         }
 
     -- at the end what is written so far is the whole run
     finished : (more : Bool) → ltb (r .count) n ≡ more → (more && not (r .ended)) ≡ false
         → tracedOf map image stored s (entries records n) ≡ soFar r store output
     unfolding soFar
-    finished true e h = goes .whole ∙ continued-ended map image (soFar r store output) (from (r .count)) (not-denied (r .ended) h)
+    finished true e h =
+        goes .whole
+        ∙ continued-ended map image (soFar r store output) (from (r .count)) (not-denied (r .ended) h)
     finished false e h =
-        goes .whole ∙ ap (continued map image (soFar r store output)) (items-end (entryAt records) (r .count) n (ltb-false (r .count) n e))
+        goes .whole
+        ∙ ap (continued map image (soFar r store output))
+        (items-end (entryAt records) (r .count) n (ltb-false (r .count) n e))
         ∙ continued-none map image (soFar r store output)
 
     pub ran : (ltb (r .count) n && not (r .ended)) ≡ false
         → Runs r store output before (tracedOf map image stored s (entries records n))
     unfolding soFar
     ran h =
-        let long = length-take-le (4 * r .count) output (omega (arith, goes .within, goes .room, goes .output-as-long)) in
+        let there : 4 * r .count ≤ length output = omega (arith, goes .within, goes .room, goes .output-as-long) in
+        let long = length-take-le (4 * r .count) output there in
         rw (finished (ltb (r .count) n) refl h)
         (record {
           state = refl;
           ended = refl;
           count = rw long (omega arith);
           leaves = refl;
-          writes = rw long (sym (take-append-drop (4 * r .count) output) ∙ ap (λ (l : List ℕ). take (4 * r .count) output ++ l) (goes .rest));
+          writes =
+              rw long
+              (sym (take-append-drop (4 * r .count) output)
+              ∙ ap (λ (l : List ℕ). take (4 * r .count) output ++ l) (goes .rest));
         })

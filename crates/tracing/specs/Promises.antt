@@ -1,7 +1,8 @@
 -- What is proved of a trace: one run after the other, slices, how much is written, 13 and the tail, one check, the
--- numbers of the files. Paper 01, "The trace program". Proved in proofs/Laws.antt and proofs/Files.antt.
+-- numbers of the files. Paper 01, "The trace program". Proved in proofs/: Continued, Cutting, Moved, Checks, Starts and
+-- Settled.
 -- Assumes nothing.
-use Prim.Native.Nat.{ℕ, suc, _+_, _*_, _<_, _%_}
+use Prim.Native.Nat.{ℕ, suc, _+_, _-_, _*_, _<_, _≤_, _%_}
 use mathlib.Core.Path.{_≡_}
 use mathlib.Core.Bool.{Bool, true, false, _&&_}
 use mathlib.Core.List.{List, [], _∷_, _++_}
@@ -15,22 +16,23 @@ use Rattle.rooms.specs.Rules.{addressHolds}
 use Rattle.rooms.specs.declared.state.State.{State}
 use Rattle.unit.specs.Step.{powerNumber, startNumber, startOf}
 use Rattle.unit.specs.Promises.{GivenBy}
-use Rattle.tracing.specs.Entry.{entries, wholeRecords, isBroken, isFramed}
+use Rattle.tracing.specs.Entry.{entries, wholeRecords, isBroken, isFramed, Reads}
 use Rattle.tracing.specs.Trace.{Traced, tracedOf, broken, whoOf, fileTests, fileNumber, closed, traceOf}
 use Rattle.tracing.specs.Run.{turnOf, continued, Runs}
+use Rattle.tracing.specs.Slices.{Keeps}
 use Rattle.tracing.specs.declared.entry.Entry.{Entry}
 use Rattle.tracing.specs.declared.records.Ran.{Ran}
 
 -- ---- one after the other
 
 -- a run over two lists of records, one after the other, is the run over both
-abbrev pub One-after-other : Type 0
-One-after-other = (map image store : List ℕ) (s : State) (es fs : List Entry)
+abbrev pub OneAfterOther : Type 0
+OneAfterOther = (map image store : List ℕ) (s : State) (es fs : List Entry)
     → tracedOf map image store s (es ++ fs) ≡ continued map image (tracedOf map image store s es) fs
 
 -- the records of two slices, one after the other, the first of k whole records, are the records of both
-abbrev pub Records-joined : Type 0
-Records-joined = (a b : List ℕ) (k n : ℕ) → length a ≡ 8 * k → entries (a ++ b) (k + n) ≡ entries a k ++ entries b n
+abbrev pub RecordsJoined : Type 0
+RecordsJoined = (a b : List ℕ) (k n : ℕ) → length a ≡ 8 * k → entries (a ++ b) (k + n) ≡ entries a k ++ entries b n
 
 -- nothing read and nothing written yet
 abbrev pub begun : List ℕ → State → Traced
@@ -48,14 +50,24 @@ joined (slice ∷ slices) = slice ++ joined slices
 abbrev pub isWhole : List ℕ → Bool
 isWhole slice = eqb (length slice % 8) 0
 
--- however the input is cut into slices of whole records, with an unfinished one behind them or none: the trace is the same
-abbrev pub Cut-anywhere : Type 0
-Cut-anywhere = (map store image adr : List ℕ) (slices : List (List ℕ)) (rest : List ℕ)
+-- however the input is cut into slices of whole records, with an unfinished one behind them or none, the trace is the
+-- same
+abbrev pub CutAnywhere : Type 0
+CutAnywhere = (map store image adr : List ℕ) (slices : List (List ℕ)) (rest : List ℕ)
     → every isWhole slices ≡ true → length rest < 8 → fileNumber map store (length image) adr ≡ 0
     → traceOf map store image adr (joined slices ++ rest)
     ≡ closed (length rest)
-      (inSlices map image
-        (begun (startOf map store image (whoOf adr) .store) (startOf map store image (whoOf adr) .answer .state)) slices)
+    (inSlices map image
+    (begun (startOf map store image (whoOf adr) .store) (startOf map store image (whoOf adr) .answer .state)) slices)
+
+-- before what stays of a slice are whole records, and these with what stays are all that was read
+pub record Rest (kept : ℕ) (before after : List ℕ) (filled : ℕ) : Type 0 where
+  pub whole : isWhole (take (filled - kept) before) ≡ true
+  pub all : take (filled - kept) before ++ take kept after ≡ take filled before
+
+abbrev pub RestKept : Type 0
+RestKept = (kept : ℕ) (before after : List ℕ) (filled : ℕ)
+    → filled ≤ length before → Keeps kept before after filled → Rest kept before after filled
 
 -- ---- how much is written
 
@@ -65,8 +77,8 @@ answered [] = 0
 answered (e ∷ es) = if isBroken e then 1 else suc (answered es)
 
 -- per record 4 bytes
-abbrev pub Four-each : Type 0
-Four-each = (map image store : List ℕ) (s : State) (es : List Entry)
+abbrev pub FourEach : Type 0
+FourEach = (map image store : List ℕ) (s : State) (es : List Entry)
     → length (tracedOf map image store s es .output) ≡ 4 * answered es
 
 -- ---- 13 and the tail
@@ -76,11 +88,11 @@ pub record Thirteen (map image store : List ℕ) (s : State) (es : List Entry) :
   pub writes : some isBroken es ≡ false
       → tracedOf map image store s (es ++ Entry.Broken ∷ [])
       ≡ record {
-          output = tracedOf map image store s es .output ++ broken;
-          ended = true;
-          state = tracedOf map image store s es .state;
-          store = tracedOf map image store s es .store;
-        }
+        output = tracedOf map image store s es .output ++ broken;
+        ended = true;
+        state = tracedOf map image store s es .state;
+        store = tracedOf map image store s es .store;
+      }
   -- it ends the input
   pub ends : (fs : List Entry)
       → tracedOf map image store s (es ++ Entry.Broken ∷ fs) ≡ tracedOf map image store s (es ++ Entry.Broken ∷ [])
@@ -88,20 +100,20 @@ pub record Thirteen (map image store : List ℕ) (s : State) (es : List Entry) :
   pub tail : (rest : ℕ) → 0 < rest
       → closed rest (tracedOf map image store s es) ≡ closed 0 (tracedOf map image store s (es ++ Entry.Broken ∷ []))
 
-abbrev pub Thirteen-ends : Type 0
-Thirteen-ends = (map image store : List ℕ) (s : State) (es : List Entry) → Thirteen map image store s es
+abbrev pub ThirteenEnds : Type 0
+ThirteenEnds = (map image store : List ℕ) (s : State) (es : List Entry) → Thirteen map image store s es
 
 -- ---- one check is enough
 
 -- the number of map, store, image and state is the same after a record as before it
-abbrev pub One-check : Type 0
-One-check = (map image store : List ℕ) (s : State) (e : Entry) → isFramed e ≡ true
+abbrev pub OneCheck : Type 0
+OneCheck = (map image store : List ℕ) (s : State) (e : Entry) → isFramed e ≡ true
     → powerNumber map (turnOf map image store s e .store) (length image) (turnOf map image store s e .answer .state)
     ≡ powerNumber map store (length image) s
 
 -- ---- the files
 
-pub record FilesNumbered (map store : List ℕ) (kept : ℕ) (adr : List ℕ) : Type 0 where
+pub record FileNumbers (map store : List ℕ) (kept : ℕ) (adr : List ℕ) : Type 0 where
   -- exactly if
   pub exactly : GivenBy (fileNumber map store kept adr) (fileTests map store kept adr)
   -- 7 to 11 come first, then 6
@@ -111,19 +123,29 @@ pub record FilesNumbered (map store : List ℕ) (kept : ℕ) (adr : List ℕ) : 
   -- of a unit.adr of 5 bytes it is start's number
   pub start : length adr ≡ 5 → fileNumber map store kept adr ≡ startNumber map store kept (whoOf adr)
 
-abbrev pub Files-numbered : Type 0
-Files-numbered = (map store : List ℕ) (kept : ℕ) (adr : List ℕ) → FilesNumbered map store kept adr
+abbrev pub FilesNumbered : Type 0
+FilesNumbered = (map store : List ℕ) (kept : ℕ) (adr : List ℕ) → FileNumbers map store kept adr
 
 -- a file longer than its limit is seen to be longer: one byte more than the limit of each is enough
-abbrev pub One-byte-more : Type 0
-One-byte-more = (map store image adr input : List ℕ)
+abbrev pub OneByteMore : Type 0
+OneByteMore = (map store image adr input : List ℕ)
     → traceOf (take 513 map) (take 4097 store) (take 4097 image) (take 6 adr) input ≡ traceOf map store image adr input
 
 -- ---- results meeting the same promise are equal
 
-abbrev pub Run-settled : Type 0
-Run-settled = (t : Traced) (before : List ℕ) (q r : Ran) (store stored output written : List ℕ)
+abbrev pub RunSettled : Type 0
+RunSettled = (t : Traced) (before : List ℕ) (q r : Ran) (store stored output written : List ℕ)
     → Runs q store output before t → Runs r stored written before t → (q ≡ r) × (store ≡ stored) × (output ≡ written)
 
-abbrev pub Files-settled : Type 0
-Files-settled = (map store : List ℕ) (kept : ℕ) (adr : List ℕ) → Settles (λ n. n ≡ fileNumber map store kept adr)
+abbrev pub RestSettled : Type 0
+RestSettled = (before : List ℕ) (filled q r : ℕ) (after left : List ℕ)
+    → Keeps q before after filled → Keeps r before left filled → (q ≡ r) × (after ≡ left)
+
+abbrev pub EntrySettled : Type 0
+EntrySettled = (bytes : List ℕ) (i : ℕ) → Settles (λ e. Reads e bytes i)
+
+abbrev pub WhoSettled : Type 0
+WhoSettled = (adr : List ℕ) → Settles (λ who. who ≡ whoOf adr)
+
+abbrev pub FilesSettled : Type 0
+FilesSettled = (map store : List ℕ) (kept : ℕ) (adr : List ℕ) → Settles (λ n. n ≡ fileNumber map store kept adr)

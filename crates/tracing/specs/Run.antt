@@ -55,7 +55,7 @@ pub record Turns (r next : Ran) (map store after image records output written : 
 unfoldable pub roomFor : (records output : ℕ) → ℕ
 roomFor records output = if ltb (output / 4) (records / 8) then output / 4 else records / 8
 
--- what a run leaves: state, whether 13 ended it, how many records were answered, the store, and every byte of the output
+-- what a run leaves: state, whether 13 ended it, how many records were answered, the store, every byte of the output
 pub record Runs (r : Ran) (store output before : List ℕ) (t : Traced) : Type 0 where
   pub state : r .state ≡ t .state
   pub ended : r .ended ≡ t .ended

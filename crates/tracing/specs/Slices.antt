@@ -3,11 +3,12 @@
 use Prim.Native.Nat.{ℕ, _-_, _%_, _<_}
 use mathlib.Core.Path.{_≡_}
 use mathlib.Core.List.{List}
-use lib.ListN.{take}
+use lib.ListN.{take, drop}
 use Rattle.laws.specs.Parts.{part}
 
--- of the first `filled` bytes, those behind the whole records: fewer than 8, now in front
+-- of the first `filled` bytes, those behind the whole records: fewer than 8, now in front; what is behind them stays
 pub record Keeps (kept : ℕ) (before after : List ℕ) (filled : ℕ) : Type 0 where
   pub many : kept ≡ filled % 8
   pub few : kept < 8
   pub moved : take kept after ≡ part (filled - kept) kept before
+  pub rest-stays : drop kept after ≡ drop kept before

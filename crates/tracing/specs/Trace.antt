@@ -49,12 +49,19 @@ tracedOf map image store s es =
 
 -- unit.adr: address, then 32 group bits, high byte first
 unfoldable pub whoOf : List ℕ → Who
-whoOf adr = record { address = getD adr 0 0; groups = fourBytes (getD adr 1 0) (getD adr 2 0) (getD adr 3 0) (getD adr 4 0) }
+whoOf adr =
+    record {
+      address = getD adr 0 0;
+      groups = fourBytes (getD adr 1 0) (getD adr 2 0) (getD adr 3 0) (getD adr 4 0);
+    }
 
--- start's tests: 7 to 11, then 6, which a wrong length of unit.adr is too
+-- 6: the address is out of range; a wrong length of unit.adr is 6 too
+abbrev pub adrTests : List ℕ → List Test
+adrTests adr = test 6 (eqb (length adr) 5 && addressHolds (whoOf adr .address)) ∷ []
+
+-- start's tests: 7 to 11, then 6
 abbrev pub fileTests : List ℕ → List ℕ → ℕ → List ℕ → List Test
-fileTests map store kept adr =
-    checkTests map store kept ++ test 6 (eqb (length adr) 5 && addressHolds (whoOf adr .address)) ∷ []
+fileTests map store kept adr = checkTests map store kept ++ adrTests adr
 
 unfoldable pub fileNumber : List ℕ → List ℕ → ℕ → List ℕ → ℕ
 fileNumber map store kept adr = firstFailing (fileTests map store kept adr)
@@ -72,5 +79,5 @@ unfoldable pub traceOf : List ℕ → List ℕ → List ℕ → List ℕ → Lis
 traceOf map store image adr input =
     if eqb (fileNumber map store (length image) adr) 0
     then
-      closed (length input % 8) (tracedFrom (startOf map store image (whoOf adr)) map image (wholeRecords input))
+    closed (length input % 8) (tracedFrom (startOf map store image (whoOf adr)) map image (wholeRecords input))
     else fileNumber map store (length image) adr ∷ 0 ∷ 0 ∷ 0 ∷ []

@@ -27,7 +27,11 @@ fn entry_of(kind: u8, clock: u32, frame: u32) -> Entry
             frame: frame,
         });
     }
-    if kind == 1 { Entry::PowerOn } else { Entry::Broken }
+    if kind == 1 {
+        Entry::PowerOn
+    } else {
+        Entry::Broken
+    }
 }
 
 // Internal: record number i, which is there as a whole.
@@ -36,7 +40,12 @@ pub fn entry_at(records: &[u8], i: usize) -> Entry
     ensures { λ r. ⌜ Reads r (now (records .entry)) i ⌝ }
 {
     let at = 8 * i;
-    let clock = four_bytes(records[at], records[at + 1], records[at + 2], records[at + 3]);
+    let clock = four_bytes(
+        records[at],
+        records[at + 1],
+        records[at + 2],
+        records[at + 3],
+    );
     let frame = four_bytes(0, records[at + 5], records[at + 6], records[at + 7]);
     entry_of(records[at + 4], clock, frame)
 }

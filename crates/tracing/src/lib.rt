@@ -6,6 +6,7 @@ mod slices; // what goes from one slice of the input to the next
 
 pub use entry::Entry;
 pub use entry::entry_at;
+pub use entry::four_bytes;
 pub use files::number_of_files;
 pub use files::who_of;
 pub use records::Ran;

@@ -3,7 +3,7 @@ ghost use Prim.Native.Nat.{_≤_};
 ghost use lib.ListN.{length};
 ghost use Rattle.tracing.specs.Slices.{Keeps};
 
-// Internal: of the first `filled` bytes those behind the whole records go to the front, and it answers how many they are.
+// Internal: of the first `filled` bytes those behind the whole records go to the front. It answers how many they are.
 pub fn keep_rest(input: &mut [u8], filled: usize) -> usize
     requires { ⌜ filled ≤ length (now input) ⌝ }
     ensures { λ r. ⌜ Keeps r (now (input .entry)) (now (input .exit)) filled ⌝ }

@@ -1,6 +1,5 @@
 -- `tracing::records::room_for` meets its contract.
 -- Assumes nothing.
-use borrow.Author.Needs.{needs}
 use borrow.Author.Tests.{lt-ltb, le-ltb}
 use Rattle.tracing.specs.Run.{roomFor}
 use Rattle.tracing.proofs.records.room_for.Statement.{statement}

@@ -1,71 +1,68 @@
 -- `tracing::slices::keep_rest` meets its contract.
 -- Assumes nothing.
-use Prim.Native.Nat.{_-_, _%_, _≤_}
-use mathlib.Core.Path.{_≡_, refl, sym, _∙_}
+use Prim.Native.Nat.{_+_, _-_, _≤_}
+use mathlib.Core.Path.{_≡_, refl}
 use native.Mathlib.Omega.{arith}
 use lib.ListN.{length, length-set}
 use Rattle.laws.specs.Parts.{part}
-use Rattle.tracing.proofs.Moved.{Moved, moved-none, moved-more}
+use Rattle.tracing.proofs.Moved.{Moved, moved-none, moved-more, all-moved}
 use Rattle.tracing.proofs.slices.keep_rest.Statement.{statement}
 use Rattle.tracing.proofs.slices.keep_rest.Tie as tie
-use Rattle.tracing.proofs.slices.keep_rest.Reads as reads
-use Rattle.tracing.proofs.slices.keep_rest.Lts as lts
 
 abbrev Inv-loop : tie.InvT-loop
 Inv-loop input₀ filled kept from i₀ input i =
-    (kept ≡ filled % 8) × (from ≡ filled - kept) × (filled ≤ length input₀) × (length input ≡ length input₀) × (i ≤ kept)
+    (from + kept ≡ filled) × (filled ≤ length input₀) × (length input ≡ length input₀) × (i ≤ kept)
     × Moved from input₀ input i
 
 abbrev μ-loop : tie.MeasureT-loop
 μ-loop input₀ filled kept from i₀ input i = kept - i
 
--- src/slices.rt:12:16
 sub-from : tie.Need-sub-from Inv-loop μ-loop
 sub-from c = omega arith
 
--- src/slices.rt:14:5
 loop-holds : tie.Need-loop-holds Inv-loop μ-loop
-loop-holds c = (refl, refl, c .pre, refl, omega arith, moved-none _ _)
+loop-holds c = (omega arith, c .pre, refl, omega arith, moved-none _ _)
 
--- src/slices.rt:15:26
 add-input : tie.Need-add-input Inv-loop μ-loop
 add-input c = omega arith
 
--- src/slices.rt:15:20
 slice-read-input : tie.Need-slice-read-input Inv-loop μ-loop
 slice-read-input c = omega arith
 
--- src/slices.rt:15:9
 slice-write-input : tie.Need-slice-write-input Inv-loop μ-loop
 slice-write-input c = omega arith
 
--- src/slices.rt:16:9
 add-i : tie.Need-add-i Inv-loop μ-loop
 add-i c = omega arith
 
--- src/slices.rt:14:5
 loop-less : tie.Need-loop-less Inv-loop μ-loop
 loop-less c = omega arith
 
--- src/slices.rt:14:5
 loop-again : tie.Need-loop-again Inv-loop μ-loop
 loop-again c =
     let inv = c .before .before .loop .inv in
-    let more = c .before .loop-test .taken in
-    (inv .0, inv .1, inv .2, (simp length-set (inv .3)), (omega arith),
-    moved-more _ _ (c .before .before .loop .input) (c .before .before .loop .i) (omega arith) (omega arith) (inv .5))
+    let more = c .before .loop-test .taken in (
+      inv .0,
+      inv .1,
+      (simp length-set (inv .2)),
+      (omega arith),
+      moved-more _ _ (c .before .before .loop .input) (c .before .before .loop .i) (omega arith) (omega arith) (inv .4),
+    )
 
--- src/slices.rt:7:1
 same-length : tie.Need-same-length Inv-loop μ-loop
-same-length c = c .before .loop .inv .3
+same-length c = c .before .loop .inv .2
 
--- src/slices.rt:7:1
 returns : tie.Need-returns Inv-loop μ-loop
 unfolding part
 returns c =
     let inv = c .before .loop .inv in
-    let all : c .before .loop .i ≡ c .before .before .args .filled % 8 = omega arith in
-    record { many = inv .0; few = omega arith; moved = rw all at (inv .5 .front) }
+    let all = all-moved (inv .3) (c .loop-test .left) (inv .4) in
+    record {
+      many = refl;
+      few = omega arith;
+      moved = all .front;
+      rest-stays = all .behind;
+    }
 
 pub keep-rest-spec : {M : Type 1} → statement M
 keep-rest-spec =
