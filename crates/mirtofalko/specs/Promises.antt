@@ -11,9 +11,9 @@ use Rattle.laws.specs.Numbers.{Test, test}
 use Rattle.laws.specs.Settled.{Settles}
 use Rattle.frames.specs.Values.{writingWord}
 use Rattle.frames.specs.Read.{readOf}
-use Rattle.frames.specs.Word.{wordOf, messageOf}
-use Rattle.frames.specs.Compose.{composeOf, composePowerOf}
-use Rattle.frames.specs.declared.message.Source.{Source}
+use Rattle.words.specs.Word.{wordOf, messageOf}
+use Rattle.composing.specs.Compose.{composeOf, composePowerOf}
+use Rattle.composing.specs.declared.source.Source.{Source}
 use Rattle.banks.specs.Map.{recordsOf}
 use Rattle.banks.specs.Rules.{checkTests, checkNumber}
 use Rattle.banks.specs.Look.{lookOf}

@@ -3,12 +3,12 @@ ghost use mathlib.Core.Path.{_≡_};
 ghost use mathlib.Core.Bool.{true};
 ghost use Rattle.frames.specs.Values.{writingWord};
 ghost use Rattle.frames.specs.Read.{readOf};
-ghost use Rattle.frames.specs.Word.{wordOf, messageOf};
-ghost use Rattle.frames.specs.Compose.{composeOf, composePowerOf};
+ghost use Rattle.words.specs.Word.{wordOf, messageOf};
+ghost use Rattle.composing.specs.Compose.{composeOf, composePowerOf};
 ghost use Rattle.mirtofalko.specs.Answers.{writtenOf, source, fieldsHeld, Held};
 use crate::answers::writing_word;
+use composing::Source;
 use frames::Reading;
-use frames::Source;
 use frames::Writing;
 
 // The message word of a frame.
@@ -16,7 +16,7 @@ use frames::Writing;
 pub extern "C" fn mf_read(frame: u32) -> u64
     ensures { λ r. ⌜ r ≡ wordOf (readOf frame) ⌝ }
 {
-    frames::word_of(frames::read(frame))
+    words::word_of(frames::read(frame))
 }
 
 // The frame of a message word.
@@ -24,7 +24,7 @@ pub extern "C" fn mf_read(frame: u32) -> u64
 pub extern "C" fn mf_write(word: u64) -> u32
     ensures { λ r. ⌜ r ≡ writingWord (writtenOf (messageOf word)) ⌝ }
 {
-    let Reading::Got(message) = frames::message_of(word) else {
+    let Reading::Got(message) = words::message_of(word) else {
         return writing_word(Writing::Refused(6));
     };
     writing_word(frames::write(message))
@@ -64,7 +64,7 @@ pub extern "C" fn mf_compose_event(
         information: information as u16,
         scheme: scheme as u8,
     };
-    writing_word(frames::compose_event(source))
+    writing_word(composing::compose_event(source))
 }
 
 // The frame of a power event.
@@ -75,5 +75,5 @@ pub extern "C" fn mf_compose_power(short: u32, groups: u32) -> u32
     if short > 255 {
         return writing_word(Writing::Refused(6));
     }
-    writing_word(frames::compose_power(short as u8, groups))
+    writing_word(composing::compose_power(short as u8, groups))
 }

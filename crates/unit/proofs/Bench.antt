@@ -5,12 +5,12 @@ use mathlib.Core.List.{List, [], _∷_, _++_, map}
 use Rattle.laws.specs.Bits.{bits}
 use Rattle.laws.specs.Numbers.{firstFailing}
 use Rattle.laws.specs.Parts.{part, put}
-use Rattle.frames.specs.Bench.{Case, AllHold, sheet as framesSheet}
-use Rattle.frames.proofs.Bench.{sheet-holds as frames-hold}
 use Rattle.frames.specs.Kind.{kindOf}
 use Rattle.frames.specs.Values.{targetAt}
 use Rattle.frames.specs.Read.{readOf, commandOf, addressOf, targetOf, eventOf, schemeOf, otherOf, fieldOf}
 use Rattle.frames.specs.Read.{powerOf as powerEventOf}
+use Rattle.composing.specs.Bench.{Case, AllHold, sheet as framesSheet}
+use Rattle.composing.proofs.Bench.{sheet-holds as frames-hold}
 use Rattle.banks.specs.Map.{recordAt, recordsOf}
 use Rattle.banks.specs.Rules.{sizeHolds, lengthsHold, placesHold, bankHolds, banksHold, headByteHolds}
 use Rattle.banks.specs.Rules.{headHolds, headBytesHold}
