@@ -1,6 +1,7 @@
 // Events, composed.
 ghost use mathlib.Core.Path.{_≡_};
-ghost use Rattle.composing.specs.Compose.{orMissing, sourceFits, shippedOf, orBlank, lowestGroup, firstCarried, secondCarried, eventWith, eventAs, eventBy, composeOf, composePowerOf};
+ghost use Rattle.composing.specs.Compose.{orMissing, sourceFits, shippedOf, orBlank, lowestGroup, firstCarried};
+ghost use Rattle.composing.specs.Compose.{secondCarried, eventWith, eventAs, eventBy, composeOf, composePowerOf};
 use crate::source::Source;
 use frames::Field;
 use frames::Message;

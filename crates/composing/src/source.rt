@@ -1,5 +1,5 @@
-// What an event is composed from; `sort` is its type, a word that the language keeps. 255 in primary and short: missing;
-// in scheme: as shipped.
+// What an event is composed from; `sort` is its type, a word that the language keeps. 255 in primary and short:
+// missing; in scheme: as shipped.
 pub struct Source {
     pub sort: u8,
     pub number: u8,

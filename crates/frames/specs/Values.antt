@@ -1,4 +1,5 @@
--- The number and the value of a target, a scheme and a field, and the case of a number and a value; the number of an answer.
+-- The number and the value of a target, a scheme and a field, and the case of a number and a value; and the number of
+-- an answer.
 -- Assumes nothing.
 use Prim.Native.Nat.{ℕ, _*_, _^_}
 use lib.Dec.{eqb}

@@ -2,12 +2,12 @@
 -- Assumes nothing.
 use mathlib.Core.Path.{refl}
 use lib.Count.{trailingZeros}
-use Rattle.frames.specs.Values.{schemeAt}
-use Rattle.frames.specs.Write.{bytesFrame, eventFits, eventFrame, powerFrame, writeOf}
-use Rattle.words.specs.Values.{addressAt, fieldAt}
-use Rattle.words.specs.Word.{sixBytes, messageAt, messageOf}
-use Rattle.composing.specs.Compose.{orMissing, sourceFits, shippedOf, orBlank, lowestGroup, eventBy, composeOf, powerFits, composePowerOf}
 use Rattle.banks.specs.Look.{lookNumber, lookOf}
+use Rattle.frames.specs.Values.{schemeAt}
+use Rattle.words.specs.Values.{addressAt, fieldAt}
+use Rattle.frames.specs.Write.{bytesFrame, eventFits, eventFrame, powerFrame, writeOf}
+use Rattle.composing.specs.Compose.{orMissing, sourceFits, shippedOf, orBlank, lowestGroup, eventBy, composeOf, powerFits, composePowerOf}
+use Rattle.words.specs.Word.{sixBytes, messageAt, messageOf}
 use Rattle.banks.specs.Rules.{checkNumber}
 use Rattle.unit.proofs.Bench.{reading, checking, looking, meaning, storing, filling, keeping, rooms, acting, calling}
 use Rattle.mirtofalko.specs.StateBytes.{bytesOf, stateBytes, fourAt, stateOf, shapeHolds}

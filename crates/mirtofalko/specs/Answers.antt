@@ -5,8 +5,8 @@ use mathlib.Core.Bool.{Bool, false, _&&_}
 use lib.Dec.{leb}
 use Rattle.frames.specs.Write.{writeOf}
 use Rattle.frames.specs.declared.message.Reading.{Reading}
-use Rattle.frames.specs.declared.message.Writing.{Writing}
 use Rattle.composing.specs.declared.source.Source.{Source}
+use Rattle.frames.specs.declared.message.Writing.{Writing}
 use Rattle.banks.specs.declared.looked.Looked.{Looked}
 use Rattle.rooms.specs.declared.reply.Reply.{Reply}
 use Rattle.mirtofalko.specs.StateBytes.{flag}

@@ -4,11 +4,11 @@ use Prim.Native.Nat.{ℕ}
 use mathlib.Core.Path.{_≡_}
 use mathlib.Core.List.{List, [], _∷_, _++_}
 use lib.ListN.{replicate}
+use Rattle.banks.specs.Look.{lookOf}
 use Rattle.frames.specs.Values.{writingWord}
 use Rattle.frames.specs.Read.{readOf}
 use Rattle.words.specs.Word.{wordOf, messageOf}
 use Rattle.composing.specs.Compose.{composeOf, composePowerOf}
-use Rattle.banks.specs.Look.{lookOf}
 use Rattle.hearing.specs.declared.rooms.Heard.{Heard}
 use Rattle.unit.specs.Bench.{benchMap, benchStore, benchImage}
 use Rattle.mirtofalko.specs.Answers.{replyWord, lookWord, writtenOf, source}

@@ -9,8 +9,9 @@ use native.Mathlib.Nat.{eq-zero-or-pos}
 use native.Mathlib.Omega.{arith}
 use borrow.Author.Tests.{eq-eqb}
 use lib.ListN.{length}
-use Rattle.composing.specs.Bench.{Case, sheet as framesSheet}
 use Rattle.banks.specs.Rules.{checkNumber}
+use Rattle.composing.specs.Bench.{Case}
+use Rattle.composing.specs.Bench.{sheet as framesSheet}
 use Rattle.unit.specs.Run.{runOf}
 use Rattle.unit.specs.Bench.{benchMap, benchStore, benchImage, benchWho, Line, says, Runs, Hold, p11, p12, late, overrun}
 use Rattle.unit.proofs.Bench.{sheet-holds}

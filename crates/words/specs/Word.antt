@@ -22,9 +22,9 @@ messageKind (Message.Event s x y i) = 2 + schemeNumber s
 messageKind (Message.Power g s) = 7
 
 -- its values; what is not used is 0.
--- A command: address kind, address number, target kind, target number, opcode. A special command: its number, its two free
--- bytes. An event: its two fields, the information, high byte first. A power cycle: group present 0/1, group, short
--- address present 0/1, short address
+-- A command: address kind, address number, target kind, target number, opcode. A special command: its number, its two
+-- free bytes. An event: its two fields, the information, high byte first. A power cycle: group present 0/1, group,
+-- short address present 0/1, short address
 abbrev pub messageValues : Message → ℕ
 messageValues (Message.Command a t o) = sixBytes (addressKind a) (addressNumber a) (targetKind t) (targetNumber t) o 0
 messageValues (Message.Special n x y) = sixBytes n x y 0 0 0

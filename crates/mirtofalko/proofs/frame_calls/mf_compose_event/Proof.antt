@@ -3,11 +3,11 @@ use native.Mathlib.Omega.{arith}
 use borrow.Author.Tests.{not-true, not-false}
 use mathlib.Core.Path.{_≡_, refl, sym, _∙_}
 use borrow.Author.Needs.{needs}
-use Rattle.composing.proofs.compose_event.Reads as compose-event-reads
 use Rattle.mirtofalko.proofs.frame_calls.mf_compose_event.Statement.{statement}
 use Rattle.mirtofalko.proofs.frame_calls.mf_compose_event.Tie as tie
 use Rattle.mirtofalko.proofs.frame_calls.mf_compose_event.Reads as reads
 use Rattle.mirtofalko.proofs.frame_calls.mf_compose_event.Lts as lts
+use Rattle.composing.proofs.compose_event.Reads as compose-event-reads
 use Rattle.mirtofalko.proofs.answers.writing_word.Reads as writing-word-reads
 use Rattle.mirtofalko.proofs.frame_calls.is_held.Reads as is-held-reads
 

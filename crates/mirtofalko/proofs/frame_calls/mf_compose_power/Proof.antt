@@ -1,11 +1,11 @@
 use Rattle.mirtofalko.proofs.Composed.{power-not-held}
 use mathlib.Core.Path.{_≡_, refl, sym, _∙_}
 use borrow.Author.Needs.{needs}
-use Rattle.composing.proofs.compose_power.Reads as compose-power-reads
 use Rattle.mirtofalko.proofs.frame_calls.mf_compose_power.Statement.{statement}
 use Rattle.mirtofalko.proofs.frame_calls.mf_compose_power.Tie as tie
 use Rattle.mirtofalko.proofs.frame_calls.mf_compose_power.Reads as reads
 use Rattle.mirtofalko.proofs.frame_calls.mf_compose_power.Lts as lts
+use Rattle.composing.proofs.compose_power.Reads as compose-power-reads
 use Rattle.mirtofalko.proofs.answers.writing_word.Reads as writing-word-reads
 
 -- src/frame_calls.rt:102:9

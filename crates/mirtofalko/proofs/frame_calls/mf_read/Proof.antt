@@ -1,11 +1,11 @@
 use mathlib.Core.Path.{_≡_, refl, sym, _∙_}
 use borrow.Author.Needs.{needs}
-use Rattle.frames.proofs.read.Reads as read-reads
-use Rattle.words.proofs.word_of.Reads as word-of-reads
 use Rattle.mirtofalko.proofs.frame_calls.mf_read.Statement.{statement}
 use Rattle.mirtofalko.proofs.frame_calls.mf_read.Tie as tie
 use Rattle.mirtofalko.proofs.frame_calls.mf_read.Reads as reads
 use Rattle.mirtofalko.proofs.frame_calls.mf_read.Lts as lts
+use Rattle.frames.proofs.read.Reads as read-reads
+use Rattle.words.proofs.word_of.Reads as word-of-reads
 
 -- src/frame_calls.rt:38:21
 read-requires : tie.Need-read-requires

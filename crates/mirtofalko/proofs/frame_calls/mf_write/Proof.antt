@@ -1,11 +1,11 @@
 use mathlib.Core.Path.{_≡_, refl, sym, _∙_}
 use borrow.Author.Needs.{needs}
-use Rattle.frames.proofs.write.Reads as write-reads
-use Rattle.words.proofs.message_of.Reads as message-of-reads
 use Rattle.mirtofalko.proofs.frame_calls.mf_write.Statement.{statement}
 use Rattle.mirtofalko.proofs.frame_calls.mf_write.Tie as tie
 use Rattle.mirtofalko.proofs.frame_calls.mf_write.Reads as reads
 use Rattle.mirtofalko.proofs.frame_calls.mf_write.Lts as lts
+use Rattle.words.proofs.message_of.Reads as message-of-reads
+use Rattle.frames.proofs.write.Reads as write-reads
 use Rattle.mirtofalko.proofs.answers.writing_word.Reads as writing-word-reads
 
 -- src/frame_calls.rt:46:33
