@@ -5,8 +5,6 @@ use mathlib.Core.List.{List, [], _∷_, _++_, map}
 use Rattle.laws.specs.Bits.{bits}
 use Rattle.laws.specs.Numbers.{firstFailing}
 use Rattle.laws.specs.Parts.{part, put}
-use Rattle.frames.specs.Bench.{Case, AllHold, sheet as framesSheet}
-use Rattle.frames.proofs.Bench.{sheet-holds as frames-hold}
 use Rattle.frames.specs.Kind.{kindOf}
 use Rattle.frames.specs.Values.{targetAt}
 use Rattle.frames.specs.Read.{readOf, commandOf, addressOf, targetOf, eventOf, schemeOf, otherOf, fieldOf}
@@ -30,6 +28,8 @@ use Rattle.unit.specs.Step.{hearing, raised, written, readBy, done, fram
 use Rattle.unit.specs.Step.{stepNumber, powerNumber, startNumber, stepOf, powerOnOf, startOf}
 use Rattle.unit.specs.Run.{inputOf, outputOf, runOf}
 use Rattle.unit.specs.Bench.{Line, says, Hold, p11, p12, late, overrun, SheetHolds}
+use Rattle.composing.specs.Bench.{Case, AllHold, sheet as framesSheet}
+use Rattle.composing.proofs.Bench.{sheet-holds as frames-hold}
 
 -- what each floor computes with: to unfold one of these is to unfold all on its line
 unfoldable pub reading : Unit {0}
