@@ -18,4 +18,4 @@ four-at-spec =
     (λ c. search needs)
     (λ c. search needs)
     (λ c κs. search needs)
-    (λ c. cc))
+    (λ c. c .four-bytes .ensures))

@@ -1,20 +1,14 @@
 -- `mirtofalko::state_bytes::unpack` meets its contract.
 -- Assumes nothing.
-use Rattle.mirtofalko.specs.StateBytes.{stateOf}
+use Rattle.mirtofalko.proofs.Packed.{unpacked}
 use borrow.Author.Needs.{needs}
 use Rattle.mirtofalko.proofs.state_bytes.unpack.Statement.{statement}
 use Rattle.mirtofalko.proofs.state_bytes.unpack.Tie as tie
 
 returns : tie.Need-returns
-unfolding stateOf
 returns c =
-    rw (
-      c .before .before .before .before .four-at .ensures,
-      c .before .before .before .four-at2 .ensures,
-      c .before .before .four-at3 .ensures,
-      c .before .eight-at .ensures,
-      c .eight-at2 .ensures,
-    )
+    unpacked _ (c .before .before .before .before .four-at .ensures) (c .before .before .before .four-at2 .ensures)
+    (c .before .before .four-at3 .ensures) (c .before .eight-at .ensures) (c .eight-at2 .ensures)
 
 pub unpack-spec : {M : Type 1} → statement M
 unpack-spec =

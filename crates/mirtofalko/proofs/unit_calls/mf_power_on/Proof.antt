@@ -16,11 +16,10 @@ returns c =
 returns-2 : tie.Need-returns-2
 unfolding powerOnFace
 returns-2 c =
-    let stepped = c .before .before .before .before in
-    let tested = stepped .before .before .before in
-    rw (← stepped .before .unpack .ensures)
-    (shaped-as _ _ _ _ _ (tested .before .shape-holds .ensures) _ (tested .if1 .left)
-    (stepped .power-on .ensures) (c .before .pack .ensures) (c .reply-word .ensures))
+    rw (← c .before .before .before .before .before .unpack .ensures)
+    (shaped-as _ _ _ _ _ (c .before .before .before .before .before .before .before .before .shape-holds .ensures) _
+    (c .before .before .before .before .before .before .before .if1 .left) (c .before .before .before .before .power-on .ensures)
+    (c .before .pack .ensures) (c .reply-word .ensures))
 
 pub mf-power-on-spec : {M : Type 1} → statement M
 mf-power-on-spec =

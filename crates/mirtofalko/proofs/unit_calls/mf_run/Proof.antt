@@ -7,18 +7,17 @@ use Rattle.mirtofalko.proofs.unit_calls.mf_run.Tie as tie
 
 returns : tie.Need-returns
 returns c =
-    let ran = c .before .before .before .before in
-    let made = ran .before .before in
-    let tested = made .before .before in
-    run-unshaped _ _ _ _ _ _ (tested .before .shape-holds .ensures) _ (ran .run .ensures) (tested .if1 .taken)
-    (made .unfit .ensures)
+    run-unshaped _ _ _ _ _ _ (c .before .before .before .before .before .before .before .before .before .shape-holds .ensures)
+    _ (c .before .before .before .before .run .ensures)
+    (c .before .before .before .before .before .before .before .before .if1 .taken)
+    (c .before .before .before .before .before .before .unfit .ensures)
 
 returns-2 : tie.Need-returns-2
 returns-2 c =
-    let ran = c .before .before .before .before .before in
-    let tested = ran .before .before .before in
-    run-shaped _ _ _ _ _ _ (tested .before .shape-holds .ensures) _ (ran .run2 .ensures) (tested .if1 .left)
-    (tested .before .before .unpack .ensures) (c .pack .ensures)
+    run-shaped _ _ _ _ _ _ (c .before .before .before .before .before .before .before .before .before .shape-holds .ensures)
+    _ (c .before .before .before .before .before .run2 .ensures)
+    (c .before .before .before .before .before .before .before .before .if1 .left)
+    (c .before .before .before .before .before .before .before .before .before .before .unpack .ensures) (c .pack .ensures)
 
 pub mf-run-spec : {M : Type 1} → statement M
 mf-run-spec =

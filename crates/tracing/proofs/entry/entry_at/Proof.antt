@@ -16,7 +16,11 @@ returns c =
     let i = known .before .args .i in
     let small : c .before .before .four-bytes2 .result < 16777216 =
     omega (arith, c .before .before .four-bytes2 .ensures, byte (8 * i + 5), byte (8 * i + 6), byte (8 * i + 7)) in
-    record { is = cc; framed = rw (c .entry-of .ensures) (framed-of _ _ _ small) }
+    let clock = c .before .before .before .before .before .before .four-bytes .ensures in
+    record {
+      is = rw (c .entry-of .ensures, clock, c .before .before .four-bytes2 .ensures);
+      framed = rw (c .entry-of .ensures) (framed-of _ _ _ small);
+    }
 
 pub entry-at-spec : {M : Type 1} → statement M
 entry-at-spec =
