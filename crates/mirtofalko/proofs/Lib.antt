@@ -1,4 +1,5 @@
 pub mod Spelled
+pub mod Copied
 pub mod Packed
 pub mod Composed
 pub mod Round

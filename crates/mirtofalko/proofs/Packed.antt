@@ -1,30 +1,13 @@
 -- The bytes of a state, put one room after the other, and read.
 -- Assumes nothing.
-use Prim.Native.Nat.{ℕ, _+_, _≤_}
-use mathlib.Core.Path.{_≡_, sym, ap, _∙_}
-use mathlib.Core.List.{List, [], _∷_}
-use native.Mathlib.Nat.{add-zero}
+use Prim.Native.Nat.{ℕ}
+use mathlib.Core.Path.{_≡_, _∙_}
+use mathlib.Core.List.{List}
 use lib.ListN.{length, getD, set, replicate}
-use Rattle.laws.specs.Lists.{items}
 use Rattle.laws.specs.Parts.{part, put}
 use Rattle.rooms.specs.declared.state.State.{State}
 use Rattle.mirtofalko.specs.StateBytes.{flag, bytesOf, stateBytes, fourAt, flagAt, stateOf}
-use Rattle.mirtofalko.proofs.Spelled.{at, part-items, spelled, items-from, put-from}
-
--- eight bytes, one by one
-module _ (bytes : List ℕ) (i : ℕ) where
-  pub eight-read : i + 8 ≤ length bytes →
-      at bytes i ∷ at bytes (i + 1) ∷ at bytes (i + 2) ∷ at bytes (i + 3) ∷ at bytes (i + 4) ∷ at bytes (i + 5)
-      ∷ at bytes (i + 6) ∷ at bytes (i + 7) ∷ []
-      ≡ part i 8 bytes
-  eight-read h = sym (part-items 8 i bytes h ∙ items-from (at bytes) i 8 ∙ rw add-zero)
-
-  pub eight-put : (e : List ℕ) → length e ≡ 8 →
-      set (set (set (set (set (set (set (set bytes i (at e 0)) (i + 1) (at e 1)) (i + 2) (at e 2)) (i + 3) (at e 3))
-      (i + 4) (at e 4)) (i + 5) (at e 5)) (i + 6) (at e 6)) (i + 7) (at e 7)
-      ≡ put i e bytes
-  eight-put e h =
-      sym (ap (λ (r : List ℕ). put i r bytes) (spelled 8 e h) ∙ put-from i (items (at e) 0 8) bytes ∙ rw add-zero)
+use Rattle.mirtofalko.proofs.Spelled.{spelled}
 
 pub packed : (s : State) (waits opens holds : ℕ) (who frame clock staged latched : List ℕ) →
     waits ≡ flag (s .waiting .held) →

@@ -31,16 +31,6 @@ pub spelled : (n : ℕ) (s : List ℕ) → length s ≡ n → s ≡ items (at s)
 unfolding part
 spelled n s e = sym (take-all n s (omega arith)) ∙ part-items n 0 s (omega arith)
 
-shifted : {A : Type 0} (f : ℕ → A) (i j n : ℕ) → items f (i + j) n ≡ items (λ k. f (i + k)) j n
-shifted f i j zero = refl
-shifted {A} f i j (suc n) =
-    ap (λ (k : ℕ). f (i + j) ∷ items f k n) (sym (add-suc i j))
-    ∙ ap (λ (r : List A). f (i + j) ∷ r) (shifted f i (suc j) n)
-
--- items from number i on, counted from there
-pub items-from : {A : Type 0} (f : ℕ → A) (i n : ℕ) → items f i n ≡ items (λ k. f (i + k)) 0 n
-items-from f i n = ap (λ (k : ℕ). items f k n) (sym (add-zero i)) ∙ shifted f i 0 n
-
 -- numbers that are all zero
 pub zeros-are : (s : List ℕ) → every (λ x. eqb x 0) s ≡ true → s ≡ replicate (length s) 0
 zeros-are [] e = refl

@@ -34,16 +34,13 @@ fn eight_at(bytes: [u8; 96], i: usize) -> [u8; 8]
     requires { ⌜ i + 8 ≤ 96 ⌝ }
     ensures { λ r. ⌜ r ≡ part i 8 bytes ⌝ }
 {
-    [
-        bytes[i],
-        bytes[i + 1],
-        bytes[i + 2],
-        bytes[i + 3],
-        bytes[i + 4],
-        bytes[i + 5],
-        bytes[i + 6],
-        bytes[i + 7],
-    ]
+    let mut eight = [0; 8];
+    let mut k = 0;
+    while k < 8 {
+        eight[k] = bytes[i + k];
+        k += 1;
+    }
+    eight
 }
 
 // The state that the bytes say.
@@ -132,14 +129,11 @@ fn put_eight(bytes: [u8; 96], i: usize, eight: [u8; 8]) -> [u8; 96]
     ensures sized { λ _. ⌜ length eight ≡ 8 ⌝ }
 {
     let mut b = bytes;
-    b[i] = eight[0];
-    b[i + 1] = eight[1];
-    b[i + 2] = eight[2];
-    b[i + 3] = eight[3];
-    b[i + 4] = eight[4];
-    b[i + 5] = eight[5];
-    b[i + 6] = eight[6];
-    b[i + 7] = eight[7];
+    let mut k = 0;
+    while k < 8 {
+        b[i + k] = eight[k];
+        k += 1;
+    }
     b
 }
 

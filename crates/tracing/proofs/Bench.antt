@@ -46,8 +46,8 @@ files-who = refl
 accepted : fileNumber benchMap benchStore 6 benchAdr ≡ 0
 accepted = files-numbered benchMap benchStore 6 benchAdr .last checked ∙ rw files-who
 
--- records whose inputs are those of a line: what the line writes, 13 for a record of unknown kind or an unfinished one, and
--- the line's store
+-- records whose inputs are those of a line: what the line writes, 13 for a record of unknown kind or an unfinished one,
+-- and the line's store
 module _ (records : List ℕ) {inputs : List Input} {output store : List ℕ}
     (e : inputsOf (wholeRecords records) ≡ inputs) (r : Runs inputs output store) where
   bench : benchTrace benchAdr records

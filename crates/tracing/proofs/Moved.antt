@@ -1,5 +1,5 @@
--- Bytes moved to the front of a list, one by one: so many stand there, and behind them nothing has changed. What stays of
--- a slice.
+-- Bytes moved to the front of a list, one by one: so many stand there, and behind them nothing has changed. What stays
+-- of a slice.
 -- Assumes nothing.
 use Prim.Native.Nat.{ℕ, _+_, _-_, _%_, _<_, _≤_}
 use mathlib.Core.Path.{_≡_, refl, ap, sym, _∙_}
@@ -56,5 +56,8 @@ rest-kept kept before after filled h k =
 
 pub rest-settled : RestSettled
 rest-settled before filled q r after left k l =
-    let same = k .many ∙ sym (l .many) in
-    (same, sym (take-append-drop q after) ∙ rw (k .moved, k .rest-stays, same, ← l .moved, ← l .rest-stays) (take-append-drop r left))
+    let same = k .many ∙ sym (l .many) in (
+      same,
+      sym (take-append-drop q after)
+          ∙ rw (k .moved, k .rest-stays, same, ← l .moved, ← l .rest-stays) (take-append-drop r left),
+    )

@@ -1,4 +1,4 @@
--- The numbers of the files: exactly if, in their order; one byte more than a limit is enough to see that a file is longer.
+-- The numbers of the files: exactly if, in their order; one byte more than a limit is enough to see a longer file.
 -- Assumes nothing.
 use Prim.Native.Nat.{ℕ, suc, _%_, _<_}
 use mathlib.Core.Path.{_≡_, refl, ap, sym, _∙_}
@@ -41,7 +41,8 @@ files-numbered map store kept adr =
       last = λ z. joined-none (checkTests map store kept) (adrTests adr) refl z;
       start = λ e.
           ap
-          (λ (b : Bool). firstFailing (checkTests map store kept ++ test 6 (b && addressHolds (whoOf adr .address)) ∷ []))
+          (λ (b : Bool).
+          firstFailing (checkTests map store kept ++ test 6 (b && addressHolds (whoOf adr .address)) ∷ []))
           (eq-eqb (length adr) 5 e);
     }
 

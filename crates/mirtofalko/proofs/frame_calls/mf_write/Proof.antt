@@ -7,7 +7,8 @@ use Rattle.mirtofalko.proofs.frame_calls.mf_write.Tie as tie
 
 returns : tie.Need-returns
 returns c =
-    c .out-of-range .ensures ∙ rw (sym (c .before .before .before .message-of .ensures) ∙ c .before .enum-told .given .1)
+    c .out-of-range .ensures
+    ∙ rw (sym (c .before .before .before .message-of .ensures) ∙ c .before .enum-told .given .1)
 
 returns-2 : tie.Need-returns-2
 returns-2 c =

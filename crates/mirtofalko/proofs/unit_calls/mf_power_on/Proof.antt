@@ -18,8 +18,8 @@ unfolding powerOnFace
 returns-2 c =
     rw (← c .before .before .before .before .before .unpack .ensures)
     (shaped-as _ _ _ _ _ (c .before .before .before .before .before .before .before .before .shape-holds .ensures) _
-    (c .before .before .before .before .before .before .before .if1 .left) (c .before .before .before .before .power-on .ensures)
-    (c .before .pack .ensures) (c .reply-word .ensures))
+    (c .before .before .before .before .before .before .before .if1 .left)
+    (c .before .before .before .before .power-on .ensures) (c .before .pack .ensures) (c .reply-word .ensures))
 
 pub mf-power-on-spec : {M : Type 1} → statement M
 mf-power-on-spec =

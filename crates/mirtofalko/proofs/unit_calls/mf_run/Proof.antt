@@ -7,17 +7,20 @@ use Rattle.mirtofalko.proofs.unit_calls.mf_run.Tie as tie
 
 returns : tie.Need-returns
 returns c =
-    run-unshaped _ _ _ _ _ _ (c .before .before .before .before .before .before .before .before .before .shape-holds .ensures)
+    run-unshaped _ _ _ _ _ _
+    (c .before .before .before .before .before .before .before .before .before .shape-holds .ensures)
     _ (c .before .before .before .before .run .ensures)
     (c .before .before .before .before .before .before .before .before .if1 .taken)
     (c .before .before .before .before .before .before .unfit .ensures)
 
 returns-2 : tie.Need-returns-2
 returns-2 c =
-    run-shaped _ _ _ _ _ _ (c .before .before .before .before .before .before .before .before .before .shape-holds .ensures)
+    run-shaped _ _ _ _ _ _
+    (c .before .before .before .before .before .before .before .before .before .shape-holds .ensures)
     _ (c .before .before .before .before .before .run2 .ensures)
     (c .before .before .before .before .before .before .before .before .if1 .left)
-    (c .before .before .before .before .before .before .before .before .before .before .unpack .ensures) (c .pack .ensures)
+    (c .before .before .before .before .before .before .before .before .before .before .unpack .ensures)
+    (c .pack .ensures)
 
 pub mf-run-spec : {M : Type 1} → statement M
 mf-run-spec =
