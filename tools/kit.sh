@@ -36,12 +36,13 @@ c_compiler() {
     if [ "$(uname -m)" = x86_64 ]; then echo gcc; else echo x86_64-linux-gnu-gcc; fi
 }
 
-# run_x86 PROGRAM..: runs a program of that compiler; on Arm the kit's emulator runs it.
+# run_x86 PROGRAM..: runs a program of that compiler; on Arm the kit's emulator runs it. Where `within` is set, for so many
+# seconds at most.
 run_x86() {
-    if [ "$(uname -m)" = x86_64 ]; then
-        "$@"
-    else
+    if [ "$(uname -m)" != x86_64 ]; then
         rt_file=$(readlink -f "$(command -v rt)")
-        "${RATTLE_HOME:-$(dirname "$(dirname "$rt_file")")}/on/$(uname -m)/toolchain/bin/qemu-x86_64" -L /usr/x86_64-linux-gnu "$@"
+        built=${RATTLE_HOME:-$(dirname "$(dirname "$rt_file")")}/on/$(uname -m)/toolchain
+        set -- "$built/bin/qemu-x86_64" -L /usr/x86_64-linux-gnu "$@"
     fi
+    ${within:+timeout "$within"} "$@"
 }
