@@ -3,7 +3,6 @@ pub mod Members
 pub mod Locations
 pub mod HeadsAndLocks
 pub mod Standing
-pub mod Looks
 pub mod Values
 pub mod Cases
 pub mod ForHistory

@@ -9,7 +9,6 @@ use lib.ListN.{length, getD}
 use Rattle.banks.specs.Map.{recordsOf, writable, locationsEnd, placesEnd}
 use Rattle.banks.specs.Rules.{ordered, placed, banksHold, headBytesHold}
 use Rattle.banks.specs.Lookup.{holder, valueOf, putValue, lockByte}
-use Rattle.banks.specs.Look.{lookOf, lookBytes}
 use Rattle.banks.specs.declared.record.Record.{Record}
 use Rattle.banks.specs.declared.holder.Found.the-variants.{At}
 
@@ -80,11 +79,3 @@ pub record Put (map store bytes : List ℕ) (r : Record) : Type 0 where
       (bank : ℕ) → (holder (recordsOf map) bank 0x02 ≡ At r → ⊥)
       → lockByte (recordsOf map) (putValue r bytes store) bank ≡ lockByte (recordsOf map) store bank
   pub as-long : length (putValue r bytes store) ≡ length store
-
--- a look that found the value r
-pub record Shows (map store : List ℕ) (bank location : ℕ) (r : Record) : Type 0 where
-  pub member : Member r map
-  pub its-bank : r .bank ≡ bank
-  pub begins : r .first ≡ location
-  pub place : lookOf map store bank location ≡ record { number = 0; width = r .width; offset = r .offset }
-  pub bytes : lookBytes map store bank location ≡ valueOf r store

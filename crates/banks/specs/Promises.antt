@@ -1,4 +1,4 @@
--- What is proved of the definitions: the numbers, the records, the values, the looks. The proofs stand in proofs/.
+-- What is proved of the definitions: the numbers, the records, the values. The proofs stand in proofs/.
 -- Assumes nothing.
 use mathlib.Core.Path.{_≡_}
 use mathlib.Core.Logic.{_⊎_, _↔_}
@@ -11,11 +11,9 @@ use Rattle.laws.specs.Settled.{Settles}
 use Rattle.banks.specs.Map.{recordAt, recordsOf, writable, placesEnd, mapped}
 use Rattle.banks.specs.Rules.{ordered, placed, banksHold, checkTests, checkNumber}
 use Rattle.banks.specs.Lookup.{holds, holder, beginner, valueOf, putValue}
-use Rattle.banks.specs.Look.{lookTests, lookNumber, lookOf, lookBytes}
-use Rattle.banks.specs.Facts.{Member, Stands, Fielded, Before, Apart, Holds, Within, LockRecord, Put, Shows}
+use Rattle.banks.specs.Facts.{Member, Stands, Fielded, Before, Apart, Holds, Within, LockRecord, Put}
 use Rattle.banks.specs.declared.record.Record.{Record}
 use Rattle.banks.specs.declared.holder.Found.the-variants.{At, Nothing}
-use Rattle.banks.specs.declared.looked.Looked.{Looked}
 
 -- The numbers.
 
@@ -28,19 +26,6 @@ CheckNumbers =
 -- 0 is given exactly if everything stands
 abbrev pub CheckStands : Type 0
 CheckStands = (map store : List ℕ) (kept : ℕ) → (checkNumber map store kept ≡ 0) ↔ Stands map store kept
-
--- 7 to 11 and 14, in the same way
-abbrev pub LookNumbers : Type 0
-LookNumbers =
-    (map store : List ℕ) (bank location n : ℕ) → 0 < n
-    → (lookNumber map store bank location ≡ n) ↔ Given (lookTests map store bank location) n
-
--- 0 is given exactly if everything stands, the store standing for the image, and a value begins there
-abbrev pub LookStands : Type 0
-LookStands =
-    (map store : List ℕ) (bank location : ℕ)
-    → (lookNumber map store bank location ≡ 0)
-    ↔ (Stands map store (length store) × ((r : Record) × Member r map × (r .bank ≡ bank) × (r .first ≡ location)))
 
 -- The records of a map.
 
@@ -130,33 +115,7 @@ CheckStaysPut =
     → length bytes ≡ r .width → writable r ≡ true
     → checkNumber map (putValue r bytes store) kept ≡ checkNumber map store kept
 
--- The looks.
-
--- the number is 0: the value that begins there, its place and its bytes
-abbrev pub LookShows : Type 0
-LookShows =
-    (map store : List ℕ) (bank location : ℕ) → lookNumber map store bank location ≡ 0
-    → (r : Record) × Shows map store bank location r
-
--- the part is empty exactly if the number is not 0
-abbrev pub LookEmpty : Type 0
-LookEmpty =
-    (map store : List ℕ) (bank location : ℕ)
-    → (lookBytes map store bank location ≡ []) ↔ (lookNumber map store bank location ≡ 0 → ⊥)
-
--- Answers that meet the same promise are equal; of `look`, the bytes of the part are.
+-- Answers that meet the same promise are equal.
 
 abbrev pub CheckSettled : Type 0
 CheckSettled = (map store image : List ℕ) → Settles (λ (r : ℕ). r ≡ checkNumber map store (length image))
-
-abbrev pub LookAtSettled : Type 0
-LookAtSettled =
-    (map store : List ℕ) (bank location : ℕ) → Settles (λ (r : Looked). r ≡ lookOf map store bank location)
-
-abbrev pub LookNumberSettled : Type 0
-LookNumberSettled =
-    (map store : List ℕ) (bank location : ℕ) → Settles (λ (r : ℕ). r ≡ lookNumber map store bank location)
-
-abbrev pub LookSettled : Type 0
-LookSettled =
-    (map store : List ℕ) (bank location : ℕ) → Settles (λ (bytes : List ℕ). bytes ≡ lookBytes map store bank location)

@@ -2,16 +2,11 @@
 mod record; // a record of the map
 mod rules; // the rules 7 to 11
 mod holder; // which record holds a location
-mod looked; // the look calls
 
 pub use holder::Found;
 pub use holder::is_mapped;
 pub use holder::lock_byte;
 pub use holder::lookup;
-pub use looked::Looked;
-pub use looked::look;
-pub use looked::look_at;
-pub use looked::look_number;
 pub use record::Record;
 pub use record::is_writable;
 pub use record::locations_end;
@@ -22,3 +17,4 @@ pub use rules::banks_hold;
 pub use rules::check;
 pub use rules::check_number;
 pub use rules::head_bytes_hold;
+pub use rules::is_lock;

@@ -175,7 +175,7 @@ fn is_head(r: Record) -> bool
     (r.first == 0x00) & (r.width == 1) & (r.kind == 0)
 }
 
-fn is_lock(r: Record) -> bool
+pub fn is_lock(r: Record) -> bool
     ensures { λ b. ⌜ b ≡ isLock r ⌝ }
 {
     (r.first == 0x02) & (r.width == 1) & (r.kind == 2) & (r.lockable == 0)

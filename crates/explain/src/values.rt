@@ -43,8 +43,8 @@ fn show_each(map: &[u8], before: &[u8], after: &[u8]) {
     while i < n {
         let r = banks::record_at(map, i);
         if banks::is_writable(r) {
-            let old = banks::look(map, before, r.bank, r.first);
-            show_value(r, old, banks::look(map, after, r.bank, r.first));
+            let old = looks::look(map, before, r.bank, r.first);
+            show_value(r, old, looks::look(map, after, r.bank, r.first));
         }
         i += 1;
     }

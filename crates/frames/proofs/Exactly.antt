@@ -8,12 +8,10 @@ use Rattle.laws.proofs.Numbers.{exactly-if}
 use Rattle.frames.specs.Values.{readingNumber, writingNumber}
 use Rattle.frames.specs.Read.{readOf}
 use Rattle.frames.specs.Write.{writeOf}
-use Rattle.frames.specs.Compose.{composeOf, composePowerOf}
 use Rattle.frames.specs.Refusals.{ReadingExactly, WritingExactly, Exactly}
 use Rattle.frames.specs.declared.message.Reading.{Reading}
 use Rattle.frames.specs.declared.message.Writing.{Writing}
 use Rattle.frames.proofs.Refusals.{reader-numbers, writer-numbers}
-use Rattle.frames.proofs.Composed.{composer-numbers, power-numbers}
 
 reading : (r : Reading) (ts : List Test) → readingNumber r ≡ firstFailing ts → ReadingExactly r ts
 reading r ts e n h = (
@@ -25,7 +23,7 @@ reading r ts e n h = (
     refused (Reading.Got m) q = absurd (omega arith)
     refused (Reading.Refused k) q = ap Reading.Refused q
 
-writing : (w : Writing) (ts : List Test) → writingNumber w ≡ firstFailing ts → WritingExactly w ts
+pub writing : (w : Writing) (ts : List Test) → writingNumber w ≡ firstFailing ts → WritingExactly w ts
 writing w ts e n h = (
   (λ q. exactly-if ts n h .0 (sym e ∙ ap writingNumber q)),
   λ g. refused w (e ∙ exactly-if ts n h .1 g),
@@ -40,6 +38,4 @@ exactly =
     record {
       read = λ f. reading (readOf f) _ (reader-numbers f);
       write = λ m. writing (writeOf m) _ (writer-numbers m);
-      compose-event = λ e. writing (composeOf e) _ (composer-numbers e);
-      compose-power = λ short groups. writing (composePowerOf short groups) _ (power-numbers short groups);
     }

@@ -2,8 +2,5 @@ pub mod Values
 pub mod Kind
 pub mod Read
 pub mod Write
-pub mod Compose
-pub mod Word
 pub mod Promises
 pub mod Refusals
-pub mod Bench

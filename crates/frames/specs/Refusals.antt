@@ -1,5 +1,5 @@
 -- When each number is given: paper 01, "Refusal numbers".
--- Proved in proofs/: Refusals (reader, writer), Composed (composers) and Exactly.
+-- Proved in proofs/: Refusals and Exactly.
 -- Assumes nothing.
 use mathlib.Core.Path.{_≡_}
 use mathlib.Core.Bool.{Bool, not, _&&_, _||_}
@@ -13,10 +13,8 @@ use Rattle.frames.specs.Kind.{kindOf}
 use Rattle.frames.specs.Values.{readingNumber, writingNumber}
 use Rattle.frames.specs.Read.{shortForm, groupForm, specialForm, readOf}
 use Rattle.frames.specs.Write.{messageFits, writeOf}
-use Rattle.frames.specs.Compose.{sourceFits, composeOf, powerFits, composePowerOf}
 use Rattle.frames.specs.declared.message.Message.{Message}
 use Rattle.frames.specs.declared.message.Reading.{Reading}
-use Rattle.frames.specs.declared.message.Source.{Source}
 use Rattle.frames.specs.declared.message.Writing.{Writing}
 
 -- bit 16 set means command, clear means event
@@ -80,18 +78,6 @@ writerTests m = test 6 (messageFits m) ∷ []
 abbrev pub WriterNumbers : Type 0
 WriterNumbers = (m : Message) → writingNumber (writeOf m) ≡ firstFailing (writerTests m)
 
-abbrev pub composerTests : Source → List Test
-composerTests e = test 6 (sourceFits e) ∷ []
-
-abbrev pub ComposerNumbers : Type 0
-ComposerNumbers = (e : Source) → writingNumber (composeOf e) ≡ firstFailing (composerTests e)
-
-abbrev pub powerTests : ℕ → ℕ → List Test
-powerTests short groups = test 6 (powerFits short groups) ∷ []
-
-abbrev pub PowerNumbers : Type 0
-PowerNumbers = (short groups : ℕ) → writingNumber (composePowerOf short groups) ≡ firstFailing (powerTests short groups)
-
 -- so each number is given exactly if every test before its own passes and its own fails
 abbrev pub ReadingExactly : Reading → List Test → Type 0
 ReadingExactly r ts = (n : ℕ) → 0 < n → (r ≡ Reading.Refused n → Given ts n) × (Given ts n → r ≡ Reading.Refused n)
@@ -102,8 +88,6 @@ WritingExactly w ts = (n : ℕ) → 0 < n → (w ≡ Writing.Refused n → Given
 pub record Exactly : Type 0 where
   pub read : (f : ℕ) → ReadingExactly (readOf f) (readerTests f)
   pub write : (m : Message) → WritingExactly (writeOf m) (writerTests m)
-  pub compose-event : (e : Source) → WritingExactly (composeOf e) (composerTests e)
-  pub compose-power : (short groups : ℕ) → WritingExactly (composePowerOf short groups) (powerTests short groups)
 
 -- the other 14 odd bytes are reserved
 abbrev pub Reserved14 : Type 0

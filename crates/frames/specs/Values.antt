@@ -1,51 +1,15 @@
--- The number and the values that paper 01 gives to each case of the enums, and the case of a number and a value.
+-- The number and the value of a target, a scheme and a field, and the case of a number and a value; and the number of
+-- an answer.
 -- Assumes nothing.
 use Prim.Native.Nat.{ℕ, _*_, _^_}
 use lib.Dec.{eqb}
 use Rattle.laws.specs.Choice.{if_then_else_}
-use Rattle.frames.specs.declared.message.Address.{Address}
 use Rattle.frames.specs.declared.message.Field.{Field}
 use Rattle.frames.specs.declared.message.Reading.{Reading}
 use Rattle.frames.specs.declared.message.Scheme.{Scheme}
 use Rattle.frames.specs.declared.message.Target.{Target}
 use Rattle.frames.specs.declared.message.Targeted.{Targeted}
 use Rattle.frames.specs.declared.message.Writing.{Writing}
-
--- Kinds are numbered in the order of the cases. What has no number has 0.
--- Back from a number: one that no case has falls to the last case, and `matched` of Word.antt refuses it.
-
-abbrev pub addressKind : Address → ℕ
-addressKind (Address.Short n) = 0
-addressKind (Address.Group n) = 1
-addressKind Address.Unaddressed = 2
-addressKind Address.Broadcast = 3
-
-abbrev pub addressNumber : Address → ℕ
-addressNumber (Address.Short n) = n
-addressNumber (Address.Group n) = n
-addressNumber Address.Unaddressed = 0
-addressNumber Address.Broadcast = 0
-
-unfoldable pub addressAt : ℕ → ℕ → Address
-addressAt kind n =
-    if eqb kind 0 then Address.Short n
-    else if eqb kind 1 then Address.Group n
-    else if eqb kind 2 then Address.Unaddressed
-    else Address.Broadcast
-
--- a target's kind is its number in the table of kinds
-abbrev pub targetKind : Target → ℕ
-targetKind (Target.InstanceNumber n) = 1
-targetKind (Target.InstanceGroup n) = 2
-targetKind (Target.InstanceType n) = 3
-targetKind (Target.FeatureAtNumber n) = 4
-targetKind (Target.FeatureAtGroup n) = 5
-targetKind (Target.FeatureAtType n) = 6
-targetKind Target.FeatureBroadcast = 7
-targetKind Target.DeviceFeature = 8
-targetKind Target.FeatureAtInstanceBroadcast = 9
-targetKind Target.Device = 10
-targetKind Target.InstanceBroadcast = 11
 
 abbrev pub targetNumber : Target → ℕ
 targetNumber (Target.InstanceNumber n) = n
@@ -75,13 +39,6 @@ targetAt kind n =
     else if eqb kind 11 then Targeted.At Target.InstanceBroadcast
     else Targeted.Reserved
 
-abbrev pub schemeNumber : Scheme → ℕ
-schemeNumber Scheme.TypeNumber = 0
-schemeNumber Scheme.ShortType = 1
-schemeNumber Scheme.ShortNumber = 2
-schemeNumber Scheme.GroupType = 3
-schemeNumber Scheme.PrimaryType = 4
-
 unfoldable pub schemeAt : ℕ → Scheme
 schemeAt n =
     if eqb n 0 then Scheme.TypeNumber
@@ -97,9 +54,6 @@ fieldPresent (Field.Holds v) = 1
 abbrev pub fieldValue : Field → ℕ
 fieldValue Field.Blank = 0
 fieldValue (Field.Holds v) = v
-
-unfoldable pub fieldAt : ℕ → ℕ → Field
-fieldAt present v = if eqb present 0 then Field.Blank else Field.Holds v
 
 -- the number of an answer: 0 where it is no refusal
 abbrev pub readingNumber : Reading → ℕ

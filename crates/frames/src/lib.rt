@@ -1,14 +1,10 @@
-// What 24 bits say: forward frames and events, read, written and composed.
+// What 24 bits say: forward frames and events, read and written.
 mod message; // the types
-mod values; // the number and the values of each case
+mod values; // the number and the value of a target, a scheme and a field
 mod kinds; // the table of kinds
 mod reader; // from a frame to a message
 mod writer; // from a message to a frame
-mod composer; // events, composed
-mod words; // a reading as one number, and back
 
-pub use composer::compose_event;
-pub use composer::compose_power;
 pub use message::Address;
 pub use message::Addressed;
 pub use message::Field;
@@ -17,11 +13,14 @@ pub use message::Message;
 pub use message::Reading;
 pub use message::Scheme;
 pub use message::Schemed;
-pub use message::Source;
 pub use message::Target;
 pub use message::Targeted;
 pub use message::Writing;
+pub use reader::aimed_at;
 pub use reader::read;
-pub use words::message_of;
-pub use words::word_of;
+pub use values::field_present;
+pub use values::field_value;
+pub use values::scheme_at;
+pub use values::target_at;
+pub use values::target_number;
 pub use writer::write;

@@ -1,6 +1,7 @@
 // From a frame to a message.
 ghost use mathlib.Core.Path.{_≡_};
-ghost use Rattle.frames.specs.Read.{addressOf, targetOf, aimed, commandOf, fieldOf, powerOf, schemeOf, firstField, otherOf, eventOf, readOf};
+ghost use Rattle.frames.specs.Read.{addressOf, targetOf, aimed, commandOf, fieldOf, powerOf, schemeOf};
+ghost use Rattle.frames.specs.Read.{firstField, otherOf, eventOf, readOf};
 use crate::kinds::kind;
 use crate::message::Address;
 use crate::message::Addressed;

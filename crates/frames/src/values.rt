@@ -1,63 +1,11 @@
-// The number and the values of each case of the enums, and the case of a number and a value.
+// The number and the value of a target, a scheme and a field, and the case of a number and a value.
 ghost use mathlib.Core.Path.{_≡_};
 ghost use Prim.Native.Nat.{_<_};
-ghost use Rattle.frames.specs.Values.{addressKind, addressNumber, addressAt, targetKind, targetNumber, targetAt, schemeNumber, schemeAt, fieldPresent, fieldValue, fieldAt};
-use crate::message::Address;
+ghost use Rattle.frames.specs.Values.{targetNumber, targetAt, schemeAt, fieldPresent, fieldValue};
 use crate::message::Field;
 use crate::message::Scheme;
 use crate::message::Target;
 use crate::message::Targeted;
-
-pub fn address_kind(address: Address) -> u8
-    ensures { λ r. ⌜ r ≡ addressKind address ⌝ }
-{
-    match address {
-        Address::Short(_) => 0,
-        Address::Group(_) => 1,
-        Address::Unaddressed => 2,
-        Address::Broadcast => 3,
-    }
-}
-
-pub fn address_number(address: Address) -> u8
-    ensures { λ r. ⌜ r ≡ addressNumber address ⌝ }
-{
-    match address {
-        Address::Short(n) => n,
-        Address::Group(n) => n,
-        Address::Unaddressed => 0,
-        Address::Broadcast => 0,
-    }
-}
-
-pub fn address_at(kind: u8, number: u8) -> Address
-    ensures { λ r. ⌜ r ≡ addressAt kind number ⌝ }
-{
-    match kind {
-        0 => Address::Short(number),
-        1 => Address::Group(number),
-        2 => Address::Unaddressed,
-        _ => Address::Broadcast,
-    }
-}
-
-pub fn target_kind(target: Target) -> u8
-    ensures { λ r. ⌜ r ≡ targetKind target ⌝ }
-{
-    match target {
-        Target::InstanceNumber(_) => 1,
-        Target::InstanceGroup(_) => 2,
-        Target::InstanceType(_) => 3,
-        Target::FeatureAtNumber(_) => 4,
-        Target::FeatureAtGroup(_) => 5,
-        Target::FeatureAtType(_) => 6,
-        Target::FeatureBroadcast => 7,
-        Target::DeviceFeature => 8,
-        Target::FeatureAtInstanceBroadcast => 9,
-        Target::Device => 10,
-        Target::InstanceBroadcast => 11,
-    }
-}
 
 pub fn target_number(target: Target) -> u8
     ensures { λ r. ⌜ r ≡ targetNumber target ⌝ }
@@ -96,19 +44,6 @@ pub fn target_at(kind: u8, number: u8) -> Targeted
     }
 }
 
-pub fn scheme_number(scheme: Scheme) -> u8
-    ensures same { λ r. ⌜ r ≡ schemeNumber scheme ⌝ }
-    ensures small { λ r. ⌜ r < 5 ⌝ }
-{
-    match scheme {
-        Scheme::TypeNumber => 0,
-        Scheme::ShortType => 1,
-        Scheme::ShortNumber => 2,
-        Scheme::GroupType => 3,
-        Scheme::PrimaryType => 4,
-    }
-}
-
 pub fn scheme_at(number: u8) -> Scheme
     ensures { λ r. ⌜ r ≡ schemeAt number ⌝ }
 {
@@ -138,13 +73,4 @@ pub fn field_value(field: Field) -> u8
         Field::Blank => 0,
         Field::Holds(v) => v,
     }
-}
-
-pub fn field_at(present: u8, value: u8) -> Field
-    ensures { λ r. ⌜ r ≡ fieldAt present value ⌝ }
-{
-    if present == 0 {
-        return Field::Blank;
-    }
-    Field::Holds(value)
 }

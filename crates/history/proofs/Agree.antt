@@ -11,44 +11,40 @@ use Rattle.laws.specs.Choice.{if_then_else_}
 use Rattle.laws.specs.Outcome.{Outcome}
 use Rattle.banks.specs.Map.{recordsOf, mapped}
 use Rattle.banks.specs.declared.record.Record.{Record}
+use Rattle.banks.specs.Facts.{Stands}
+use Rattle.memory.specs.Staged.{noneStaged, writeOf}
+use Rattle.memory.specs.Filled.{filledOf}
+use Rattle.memory.specs.declared.staged.Staged.{Staged}
+use Rattle.memory.specs.declared.filled.Filling.the-variants.{PowerOn, Reset}
 use Rattle.hearing.specs.Meaning.{meaningOf}
 use Rattle.hearing.specs.Pairs.{noneWaits, waitsFor, inTime, completes}
 use Rattle.hearing.specs.declared.rooms.Who.{Who}
 use Rattle.hearing.specs.declared.rooms.Heard.{Heard}
 use Rattle.hearing.specs.declared.rooms.Waiting.{Waiting}
 use Rattle.hearing.specs.declared.meaning.Once.{Once}
-use Rattle.hearing.specs.declared.meaning.Once.the-variants.{QueryMissingShortAddress, QueryContentDtr}
+use Rattle.hearing.specs.declared.meaning.Once.the-variants.{QueryMissingShortAddress, QueryContentDtr, SetDtr, SetDtrs}
 use Rattle.hearing.specs.declared.meaning.Once.the-variants.{QueryDeviceGroups}
 use Rattle.hearing.specs.declared.meaning.Once.the-variants.{ReadMemoryLocation, WriteMemoryLocation, DirectWriteMemory}
-use Rattle.hearing.specs.declared.meaning.Once.the-variants.{SetDtr, SetDtrs}
 use Rattle.hearing.specs.declared.meaning.Twice.{Twice}
 use Rattle.hearing.specs.declared.meaning.Twice.the-variants.{ResetMemoryBank, SetShortAddress, EnableWriteMemory}
 use Rattle.hearing.specs.declared.meaning.Twice.the-variants.{AddToDeviceGroups, RemoveFromDeviceGroups}
 use Rattle.hearing.specs.declared.meaning.Meaning.{Meaning}
 use Rattle.hearing.specs.declared.meaning.Meaning.the-variants.{Foreign, NotObeyed, AtOnce, NeedsPair}
 use Rattle.hearing.proofs.ForHistory.{none-completes, one-completes, in-time-equal}
-use Rattle.memory.specs.Staged.{noneStaged, writeOf}
-use Rattle.memory.specs.Filled.{filledOf}
-use Rattle.memory.specs.declared.staged.Staged.{Staged}
-use Rattle.memory.specs.declared.filled.Filling.the-variants.{PowerOn, Reset}
-use Rattle.banks.specs.Facts.{Stands}
+use Rattle.rooms.specs.State.{zeroRegisters, shutDoor}
+use Rattle.rooms.specs.declared.reply.Stepped.{Stepped}
+use Rattle.rooms.specs.declared.state.State.{State}
 use Rattle.unit.specs.Run.{Input, power-on, hears}
-use Rattle.unit.specs.State.{zeroRegisters}
-use Rattle.unit.specs.State.{shutDoor}
 use Rattle.unit.specs.Step.{frameOf, powerOf}
-use Rattle.unit.specs.declared.state.Stepped.{Stepped}
-use Rattle.unit.specs.declared.state.State.{State}
-use Rattle.unit.proofs.ForHistory.{Ready, step-accepted, power-accepted, start-accepted}
+use Rattle.unit.proofs.ForHistory.{Ready, step-accepted, power-accepted, start-accepted, content-leaves, groups-leaves}
 use Rattle.unit.proofs.ForHistory.{Rooms, roomsOf, power-rooms, foreign-leaves, not-obeyed-leaves, missing-leaves}
-use Rattle.unit.proofs.ForHistory.{content-leaves, groups-leaves}
 use Rattle.unit.proofs.ForHistory.{dtr-leaves, dtrs-leaves, read-leaves, WritesAt, at-dtr0, at-offset, write-leaves}
 use Rattle.unit.proofs.ForHistory.{no-write-leaves}
 use Rattle.unit.proofs.ForHistory.{reset-leaves, enable-leaves, short-leaves, add-leaves, remove-leaves, half-leaves}
 use Rattle.history.specs.Machine.{Left, after, Accepted, unitMachine}
 use Rattle.history.specs.Pairs.{endsPair}
 use Rattle.history.specs.Deeds.{Context, Deed, opens, resets, puts, keeps, breaks, powers, executes, writeDeed}
-use Rattle.history.specs.Deeds.{onceDeed, pairDeed, deedBy, deedOf}
-use Rattle.history.specs.Deeds.{keeping, enabledBy}
+use Rattle.history.specs.Deeds.{onceDeed, pairDeed, deedBy, deedOf, keeping, enabledBy}
 use Rattle.history.specs.Context.{raisedFrom, onceRegisters, registersOf, pairWho, whoOf, meant, heardIn}
 use Rattle.history.specs.Context.{poweredIn, context, deedAfter}
 

@@ -17,12 +17,12 @@ use Rattle.frames.specs.Values.{targetAt}
 use Rattle.banks.specs.Map.{recordAt, recordsOf}
 use Rattle.banks.specs.declared.record.Record.{Record}
 use Rattle.banks.specs.Facts.{Fielded}
+use Rattle.memory.proofs.ForHistoryStaged.{taking, unfinished}
 use Rattle.hearing.specs.Meaning.{deviceCommand, firstSpecial, specialCommand, meaningOf}
 use Rattle.hearing.specs.Pairs.{passed, inTime}
 use Rattle.hearing.specs.declared.rooms.Who.{Who}
-use Rattle.memory.proofs.ForHistoryStaged.{taking, unfinished}
+use Rattle.rooms.specs.Due.{withDtr}
 use Rattle.unit.specs.Bench.{benchMap, benchWho}
-use Rattle.unit.specs.Due.{withDtr}
 use Rattle.unit.specs.Run.{Input}
 use Rattle.history.specs.Bench.{p11Frames, p12Frames, benchValue, P11Writing, P12NoWriting}
 use Rattle.history.specs.Context.{raisedFrom, onceRegisters, registersOf, pairWho, whoOf, heardIn, poweredIn}

@@ -18,13 +18,13 @@ use Rattle.memory.specs.Rooms.{zeroFrom, stagedIn, stagedHolds, latchedIn, latc
 use Rattle.memory.specs.Staged.{unlocked, taken, bytesWith, takeByte, writeFound, writeAt, writeOf}
 use Rattle.hearing.specs.Meaning.{deviceCommand, firstSpecial, specialCommand, meaningOf}
 use Rattle.hearing.specs.Pairs.{passed, inTime, completes}
+use Rattle.rooms.specs.Due.{dtrOf, withDtr, shortDue, writeDue, onceDue, pairDue, dueBy, dueOf}
+use Rattle.rooms.specs.Rules.{waitingHolds, doorHolds, stateHolds}
+use Rattle.rooms.specs.State.{withWho, withRegisters, withWaiting, withDoor, withLatch, poweredOn}
+use Rattle.rooms.specs.Reply.{quiet, answering, refusing}
 use Rattle.unit.specs.Bench.{benchMap, benchStore, benchImage, benchWho}
-use Rattle.unit.specs.Due.{dtrOf, withDtr, shortDue, writeDue, onceDue, pairDue, dueBy, dueOf}
-use Rattle.unit.specs.Rules.{waitingHolds, doorHolds, stateHolds}
 use Rattle.unit.specs.Run.{Input}
-use Rattle.unit.specs.State.{withWho, withRegisters, withWaiting, withDoor, withLatch, poweredOn}
-use Rattle.unit.specs.Step.{quiet, answering, refusing, hearing, raised, written, done, frameOf, powerOf, stepNumber}
-use Rattle.unit.specs.Step.{startNumber, stepOf, startOf}
+use Rattle.unit.specs.Step.{hearing, raised, written, done, frameOf, powerOf, stepNumber, startNumber, stepOf, startOf}
 use Rattle.history.specs.Bench.{p11Frames, p12Frames, benchValue, p11Twice}
 use Rattle.history.specs.Demand.{bytesOf}
 use Rattle.history.specs.Wrong.{eachByte, firstOnly, neverStores}

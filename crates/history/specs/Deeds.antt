@@ -9,16 +9,15 @@ use Rattle.banks.specs.declared.record.Record.{Record}
 use Rattle.hearing.specs.Meaning.{closes}
 use Rattle.hearing.specs.declared.rooms.Who.{Who}
 use Rattle.hearing.specs.declared.meaning.Once.{Once}
-use Rattle.hearing.specs.declared.meaning.Once.the-variants.{QueryMissingShortAddress, QueryContentDtr}
+use Rattle.hearing.specs.declared.meaning.Once.the-variants.{QueryMissingShortAddress, QueryContentDtr, SetDtr, SetDtrs}
 use Rattle.hearing.specs.declared.meaning.Once.the-variants.{QueryDeviceGroups}
 use Rattle.hearing.specs.declared.meaning.Once.the-variants.{ReadMemoryLocation, WriteMemoryLocation, DirectWriteMemory}
-use Rattle.hearing.specs.declared.meaning.Once.the-variants.{SetDtr, SetDtrs}
 use Rattle.hearing.specs.declared.meaning.Twice.{Twice}
 use Rattle.hearing.specs.declared.meaning.Twice.the-variants.{ResetMemoryBank, SetShortAddress, EnableWriteMemory}
 use Rattle.hearing.specs.declared.meaning.Twice.the-variants.{AddToDeviceGroups, RemoveFromDeviceGroups}
 use Rattle.hearing.specs.declared.meaning.Meaning.{Meaning}
 use Rattle.hearing.specs.declared.meaning.Meaning.the-variants.{Foreign, NotObeyed, AtOnce, NeedsPair}
-use Rattle.unit.specs.declared.state.Registers.{Registers}
+use Rattle.rooms.specs.declared.state.Registers.{Registers}
 
 -- the context of a frame, in rooms: address and groups, DTRs, write-enable
 pub record Context : Type 0 where

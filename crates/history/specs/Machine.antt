@@ -6,10 +6,10 @@ use Prim.Native.Nat.{ℕ}
 use Rattle.laws.specs.Outcome.{Outcome}
 use Rattle.hearing.specs.declared.rooms.Who.{Who}
 use Rattle.hearing.specs.declared.rooms.Heard.{Heard}
+use Rattle.rooms.specs.declared.state.State.{State}
+use Rattle.rooms.specs.declared.reply.Stepped.{Stepped}
 use Rattle.unit.specs.Run.{Input, power-on, hears}
 use Rattle.unit.specs.Step.{startOf, stepOf, powerOnOf}
-use Rattle.unit.specs.declared.state.State.{State}
-use Rattle.unit.specs.declared.state.Stepped.{Stepped}
 
 -- what a call leaves: its number (0: accepted), the state and the store
 pub record Left (S : Type 0) : Type 0 where

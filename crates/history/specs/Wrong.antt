@@ -13,7 +13,7 @@ use Rattle.banks.specs.declared.record.Record.{Record}
 use Rattle.banks.specs.declared.holder.Found.{Found}
 use Rattle.banks.specs.declared.holder.Found.the-variants.{At, Nothing}
 use Rattle.memory.specs.declared.staged.Staged.{Staged}
-use Rattle.unit.specs.declared.state.State.{State}
+use Rattle.rooms.specs.declared.state.State.{State}
 use Rattle.history.specs.Machine.{Left, Machine, unitMachine}
 use Rattle.history.specs.Demand.{Demand}
 

@@ -4,11 +4,12 @@ ghost use mathlib.Core.Bool.{true};
 ghost use Prim.Native.Nat.{_≤_};
 ghost use lib.ListN.{length};
 ghost use Rattle.banks.specs.Map.{recordsOf, placesEnd};
-ghost use Rattle.banks.specs.Rules.{placed, isLock};
+ghost use Rattle.banks.specs.Rules.{placed};
 ghost use Rattle.banks.specs.Lookup.{putValue};
 ghost use Rattle.memory.specs.Filled.{selects, chosen, fresh, filledFrom, filledOf};
 use crate::parts::put_value;
 use banks::Record;
+use banks::is_lock;
 use banks::is_writable;
 use banks::lock_byte;
 use banks::places_end;
@@ -41,12 +42,6 @@ fn is_chosen(map: &[u8], store: &[u8], filling: Filling, r: Record) -> bool
             writes & (selected & (lock == 0x55))
         }
     }
-}
-
-fn is_lock(r: Record) -> bool
-    ensures { λ b. ⌜ b ≡ isLock r ⌝ }
-{
-    (r.first == 0x02) & (r.width == 1) & (r.kind == 2) & (r.lockable == 0)
 }
 
 // Internal: the value takes its fresh bytes.

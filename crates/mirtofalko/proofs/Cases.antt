@@ -2,18 +2,19 @@
 -- Assumes nothing.
 use mathlib.Core.Path.{refl}
 use lib.Count.{trailingZeros}
-use Rattle.banks.specs.Look.{lookNumber, lookOf}
-use Rattle.frames.specs.Values.{addressAt, schemeAt, fieldAt}
+use Rattle.frames.specs.Values.{schemeAt}
 use Rattle.frames.specs.Write.{bytesFrame, eventFits, eventFrame, powerFrame, writeOf}
-use Rattle.frames.specs.Compose.{orMissing, sourceFits, shippedOf, orBlank, lowestGroup, eventBy, composeOf}
-use Rattle.frames.specs.Compose.{powerFits, composePowerOf}
-use Rattle.frames.specs.Word.{sixBytes, messageAt, messageOf}
 use Rattle.banks.specs.Rules.{checkNumber}
 use Rattle.unit.proofs.Bench.{reading, checking, looking, meaning, storing, filling, keeping, rooms, acting, calling}
 use Rattle.mirtofalko.specs.StateBytes.{bytesOf, stateBytes, fourAt, stateOf, shapeHolds}
 use Rattle.mirtofalko.specs.Answers.{replyWord, lookWord}
 use Rattle.mirtofalko.specs.Face.{shapeNumber, startFace, frameFace, powerOnFace, runFace}
 use Rattle.mirtofalko.specs.Cases.{Cases}
+use Rattle.words.specs.Values.{addressAt, fieldAt}
+use Rattle.composing.specs.Compose.{orMissing, sourceFits, shippedOf, orBlank, lowestGroup, eventBy, composeOf}
+use Rattle.composing.specs.Compose.{powerFits, composePowerOf}
+use Rattle.words.specs.Word.{sixBytes, messageAt, messageOf}
+use Rattle.looks.specs.Look.{lookNumber, lookOf}
 
 unfoldable words : Unit {0}
 unfolding lookNumber lookOf trailingZeros addressAt schemeAt fieldAt bytesFrame eventFits eventFrame powerFrame writeOf

@@ -12,12 +12,11 @@ use Rattle.laws.specs.Outcome.{Outcome}
 use Rattle.laws.proofs.Numbers.{exactly-if, none-exactly-if}
 use Rattle.banks.specs.Rules.{checkTests}
 use Rattle.hearing.specs.declared.rooms.Heard.{Heard}
-use Rattle.unit.specs.State.{poweredOn, zeroState}
+use Rattle.rooms.specs.State.{poweredOn, zeroState}
+use Rattle.rooms.specs.declared.state.State.{State}
+use Rattle.rooms.specs.declared.reply.Stepped.{Stepped}
 use Rattle.unit.specs.Step.{stepNumber, stepOf, powerNumber, powerOnOf, startNumber}
-use Rattle.unit.specs.Promises.{GivenBy, numberOf}
-use Rattle.unit.specs.Promises.{Refuses as UnitRefuses}
-use Rattle.unit.specs.declared.state.State.{State}
-use Rattle.unit.specs.declared.state.Stepped.{Stepped}
+use Rattle.unit.specs.Promises.{GivenBy, numberOf, Refuses as UnitRefuses}
 use Rattle.unit.proofs.Numbers.{calls-numbered, calls-refused}
 use Rattle.mirtofalko.specs.StateBytes.{bytesOf, stateBytes, stateOf, shapeHolds}
 use Rattle.mirtofalko.specs.Face.{facedBy, shapeNumber, onBytes, frameFace, powerOnFace, startFace}

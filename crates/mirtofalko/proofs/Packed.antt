@@ -5,7 +5,7 @@ use mathlib.Core.Path.{_≡_, _∙_}
 use mathlib.Core.List.{List}
 use lib.ListN.{length, getD, set, replicate}
 use Rattle.laws.specs.Parts.{part, put}
-use Rattle.unit.specs.declared.state.State.{State}
+use Rattle.rooms.specs.declared.state.State.{State}
 use Rattle.mirtofalko.specs.StateBytes.{flag, bytesOf, stateBytes, fourAt, flagAt, stateOf}
 use Rattle.mirtofalko.proofs.Spelled.{spelled}
 

@@ -13,8 +13,8 @@ use Rattle.laws.specs.Lists.{items, every}
 use Rattle.laws.specs.Parts.{part}
 use Rattle.laws.proofs.Tests.{both}
 use Rattle.laws.proofs.Bits.{above-all, above-none, cut}
+use Rattle.rooms.specs.declared.state.State.{State}
 use Rattle.tracing.specs.Entry.{fourBytes}
-use Rattle.unit.specs.declared.state.State.{State}
 use Rattle.mirtofalko.specs.StateBytes.{flag, bytesOf, stateBytes, fourAt, flagAt, stateOf, shapeHolds}
 use Rattle.mirtofalko.specs.Promises.{StateHeld, StateBack, Bytes, BytesBack}
 use Rattle.mirtofalko.proofs.Spelled.{at, part-items, spelled, zeros-are}

@@ -14,11 +14,12 @@ use Rattle.laws.specs.Numbers.{test, firstFailing}
 use Rattle.laws.specs.Outcome.{Outcome, leaves}
 use Rattle.banks.specs.Map.{recordsOf}
 use Rattle.banks.specs.Rules.{checkTests, checkNumber}
-use Rattle.unit.specs.Rules.{addressHolds, stateHolds}
-use Rattle.unit.specs.Step.{refusing, stepNumber, powerNumber, stepOf, powerOnOf}
+use Rattle.rooms.specs.Rules.{addressHolds, stateHolds}
+use Rattle.rooms.specs.Reply.{refusing}
+use Rattle.rooms.specs.declared.state.State.{State}
+use Rattle.rooms.specs.declared.reply.Stepped.{Stepped}
+use Rattle.unit.specs.Step.{stepNumber, powerNumber, stepOf, powerOnOf}
 use Rattle.unit.specs.Run.{Input, power-on, hears, Run, inputOf, outputOf, runFrom}
-use Rattle.unit.specs.declared.state.State.{State}
-use Rattle.unit.specs.declared.state.Stepped.{Stepped}
 use Rattle.tracing.specs.Entry.{isBroken}
 use Rattle.tracing.specs.Trace.{inputsOf, broken, Traced, tracedOf}
 use Rattle.tracing.specs.Run.{Runs}

@@ -5,19 +5,19 @@ use mathlib.Core.Bool.{Bool, false, _&&_}
 use mathlib.Core.List.{List}
 use lib.Dec.{leb}
 use lib.ListN.{length}
-use Rattle.banks.specs.Rules.{checkNumber}
-use Rattle.banks.specs.Look.{lookOf}
-use Rattle.banks.specs.declared.looked.Looked.{Looked}
 use Rattle.frames.specs.Values.{writingWord}
 use Rattle.frames.specs.Read.{readOf}
 use Rattle.frames.specs.Write.{writeOf}
-use Rattle.frames.specs.Word.{wordOf, messageOf}
-use Rattle.frames.specs.Compose.{composeOf, composePowerOf}
 use Rattle.frames.specs.declared.message.Reading.{Reading}
-use Rattle.frames.specs.declared.message.Source.{Source}
 use Rattle.frames.specs.declared.message.Writing.{Writing}
-use Rattle.unit.specs.declared.state.Reply.{Reply}
+use Rattle.banks.specs.Rules.{checkNumber}
+use Rattle.rooms.specs.declared.reply.Reply.{Reply}
 use Rattle.mirtofalko.specs.StateBytes.{flag}
+use Rattle.words.specs.Word.{wordOf, messageOf}
+use Rattle.composing.specs.Compose.{composeOf, composePowerOf}
+use Rattle.composing.specs.declared.source.Source.{Source}
+use Rattle.looks.specs.Look.{lookOf}
+use Rattle.looks.specs.declared.looked.Looked.{Looked}
 
 -- a refusal: the number, and no answer
 abbrev pub refusal : ℕ → Reply

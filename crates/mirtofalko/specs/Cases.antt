@@ -6,8 +6,8 @@ use mathlib.Core.Bool.{true}
 use mathlib.Core.List.{List, [], _∷_, _++_}
 use lib.ListN.{set, replicate}
 use Rattle.hearing.specs.declared.rooms.Heard.{Heard}
+use Rattle.rooms.specs.declared.state.State.{State}
 use Rattle.unit.specs.Bench.{benchMap, benchStore, benchImage}
-use Rattle.unit.specs.declared.state.State.{State}
 use Rattle.tracing.specs.declared.entry.Entry.{Entry}
 use Rattle.mirtofalko.specs.StateBytes.{stateBytes, stateOf}
 use Rattle.mirtofalko.specs.Answers.{replyWord}

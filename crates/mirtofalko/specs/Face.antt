@@ -9,9 +9,9 @@ use Rattle.laws.specs.Choice.{if_then_else_}
 use Rattle.laws.specs.Numbers.{test, firstFailing}
 use Rattle.laws.specs.Outcome.{Outcome}
 use Rattle.banks.specs.Rules.{checkTests}
+use Rattle.rooms.specs.declared.reply.Reply.{Reply}
+use Rattle.rooms.specs.declared.reply.Stepped.{Stepped}
 use Rattle.unit.specs.Step.{stepOf, powerOnOf, startOf}
-use Rattle.unit.specs.declared.state.Reply.{Reply}
-use Rattle.unit.specs.declared.state.Stepped.{Stepped}
 use Rattle.tracing.specs.Trace.{broken, Traced, tracedOf}
 use Rattle.tracing.specs.declared.entry.Entry.{Entry}
 use Rattle.mirtofalko.specs.StateBytes.{stateBytes, stateOf, shapeHolds}

@@ -11,17 +11,17 @@ use Rattle.laws.specs.Numbers.{Test, test}
 use Rattle.laws.specs.Settled.{Settles}
 use Rattle.banks.specs.Map.{recordsOf}
 use Rattle.banks.specs.Rules.{checkTests}
-use Rattle.banks.specs.declared.looked.Looked.{Looked}
-use Rattle.unit.specs.Rules.{stateHolds}
+use Rattle.rooms.specs.Rules.{stateHolds}
+use Rattle.rooms.specs.declared.reply.Reply.{Reply}
+use Rattle.rooms.specs.declared.state.State.{State}
 use Rattle.unit.specs.Step.{startTests}
 use Rattle.unit.specs.Promises.{GivenBy}
-use Rattle.unit.specs.declared.state.Reply.{Reply}
-use Rattle.unit.specs.declared.state.State.{State}
 use Rattle.tracing.specs.declared.entry.Entry.{Entry}
 use Rattle.mirtofalko.specs.StateBytes.{flag, stateBytes, stateOf, shapeHolds}
 use Rattle.mirtofalko.specs.Answers.{replyWord, lookWord}
 use Rattle.mirtofalko.specs.Answers.{checkAnswer, lookAnswer, readAnswer, writeAnswer, eventAnswer, powerAnswer}
 use Rattle.mirtofalko.specs.Face.{Faced, frameFace, powerOnFace, startFace, Faces, RunFaced, runFace, RunFaces}
+use Rattle.looks.specs.declared.looked.Looked.{Looked}
 
 -- ---- a state as 96 bytes
 

@@ -9,12 +9,12 @@ use Rattle.laws.specs.Choice.{if_then_else_}
 use Rattle.laws.specs.Bits.{bits}
 use Rattle.laws.specs.Lists.{every}
 use Rattle.laws.specs.Parts.{part}
+use Rattle.memory.specs.declared.latched.Latch.{Latch}
 use Rattle.hearing.specs.declared.rooms.Who.{Who}
 use Rattle.hearing.specs.declared.rooms.Waiting.{Waiting}
-use Rattle.memory.specs.declared.latched.Latch.{Latch}
-use Rattle.unit.specs.declared.state.Registers.{Registers}
-use Rattle.unit.specs.declared.state.Door.{Door}
-use Rattle.unit.specs.declared.state.State.{State}
+use Rattle.rooms.specs.declared.state.Registers.{Registers}
+use Rattle.rooms.specs.declared.state.Door.{Door}
+use Rattle.rooms.specs.declared.state.State.{State}
 use Rattle.tracing.specs.Entry.{fourBytes}
 
 -- 0/1

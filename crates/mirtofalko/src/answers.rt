@@ -3,9 +3,9 @@ ghost use mathlib.Core.Path.{_≡_};
 ghost use Rattle.frames.specs.Values.{writingWord};
 ghost use Rattle.mirtofalko.specs.Answers.{refusal, replyWord, lookWord};
 use crate::state_bytes::flag;
-use banks::Looked;
 use frames::Writing;
-use unit::Reply;
+use looks::Looked;
+use rooms::Reply;
 
 pub fn reply_word(reply: Reply) -> u32
     ensures { λ r. ⌜ r ≡ replyWord reply ⌝ }

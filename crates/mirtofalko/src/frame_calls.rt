@@ -5,8 +5,8 @@ ghost use Rattle.frames.specs.Values.{writingWord};
 ghost use Rattle.mirtofalko.specs.Answers.{outOfRange, fieldsHeld, Held};
 ghost use Rattle.mirtofalko.specs.Answers.{readAnswer, writeAnswer, eventAnswer, powerAnswer};
 use crate::answers::writing_word;
+use composing::Source;
 use frames::Reading;
-use frames::Source;
 use frames::Writing;
 
 // The message word of a frame.
@@ -14,7 +14,7 @@ use frames::Writing;
 pub extern "C" fn mf_read(frame: u32) -> u64
     ensures { λ r. ⌜ r ≡ readAnswer frame ⌝ }
 {
-    frames::word_of(frames::read(frame))
+    words::word_of(frames::read(frame))
 }
 
 // 6: out of range.
@@ -29,7 +29,7 @@ fn out_of_range() -> u32
 pub extern "C" fn mf_write(word: u64) -> u32
     ensures { λ r. ⌜ r ≡ writeAnswer word ⌝ }
 {
-    let Reading::Got(message) = frames::message_of(word) else {
+    let Reading::Got(message) = words::message_of(word) else {
         return out_of_range();
     };
     writing_word(frames::write(message))
@@ -73,7 +73,7 @@ pub extern "C" fn mf_compose_event(
         information: information as u16,
         scheme: scheme as u8,
     };
-    writing_word(frames::compose_event(source))
+    writing_word(composing::compose_event(source))
 }
 
 // The frame of a power event.
@@ -84,5 +84,5 @@ pub extern "C" fn mf_compose_power(short: u32, groups: u32) -> u32
     if short > 255 {
         return out_of_range();
     }
-    writing_word(frames::compose_power(short as u8, groups))
+    writing_word(composing::compose_power(short as u8, groups))
 }

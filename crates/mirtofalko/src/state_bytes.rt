@@ -10,10 +10,10 @@ use hearing::Waiting;
 use hearing::Who;
 use memory::Latch;
 use memory::Staged;
+use rooms::Door;
+use rooms::Registers;
+use rooms::State;
 use tracing::four_bytes;
-use unit::Door;
-use unit::Registers;
-use unit::State;
 
 pub fn flag(b: bool) -> u8
     ensures { λ r. ⌜ r ≡ flag b ⌝ }

@@ -2,12 +2,11 @@
 ghost use mathlib.Core.Path.{_≡_};
 ghost use mathlib.Core.Bool.{false};
 ghost use lib.ListN.{length};
-ghost use Rattle.unit.specs.Rules.{addressHolds};
+ghost use Rattle.rooms.specs.Rules.{addressHolds};
 ghost use Rattle.tracing.specs.Entry.{entries};
 ghost use Rattle.tracing.specs.Run.{roomFor};
 ghost use Rattle.mirtofalko.specs.Answers.{checkAnswer, lookAnswer};
-ghost use Rattle.mirtofalko.specs.Face.{shapeNumber, startFace, frameFace, powerOnFace, Faces};
-ghost use Rattle.mirtofalko.specs.Face.{runFace, RunFaces};
+ghost use Rattle.mirtofalko.specs.Face.{shapeNumber, startFace, frameFace, powerOnFace, Faces, runFace, RunFaces};
 use crate::answers::look_word;
 use crate::answers::refusal_word;
 use crate::answers::reply_word;
@@ -16,7 +15,7 @@ use crate::state_bytes::shape_holds;
 use crate::state_bytes::unpack;
 use hearing::Heard;
 use hearing::Who;
-use unit::State;
+use rooms::State;
 
 // The number of map, store and reset image: 7 to 11, or 0.
 #[no_mangle]
@@ -31,7 +30,7 @@ pub extern "C" fn mf_check(map: &[u8], store: &[u8], image: &[u8]) -> u32
 pub extern "C" fn mf_look(map: &[u8], store: &[u8], bank: u8, location: u8) -> u32
     ensures { λ r. ⌜ r ≡ lookAnswer (now (map .entry)) (now (store .entry)) bank location ⌝ }
 {
-    look_word(banks::look_at(map, store, bank, location))
+    look_word(looks::look_at(map, store, bank, location))
 }
 
 // The number for bytes that are no state's: 7 to 11, then 12.

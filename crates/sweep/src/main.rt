@@ -88,7 +88,7 @@ fn sweep(counts: &mut [u64; 16]) -> u64 {
     for frame in 0..16777216 {
         let reading = frames::read(frame);
         count_one(counts, class_of(reading));
-        checksum = mix(checksum, frames::word_of(reading));
+        checksum = mix(checksum, words::word_of(reading));
     }
     checksum
 }

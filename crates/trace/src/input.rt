@@ -4,7 +4,7 @@ ghost use lib.ListN.{length};
 ghost use Rattle.io.specs.Counts.{Counts};
 use libc::STDIN_FILENO;
 use libc::STDOUT_FILENO;
-use unit::State;
+use rooms::State;
 
 // Between two reads: the state, how many bytes of an unfinished record wait at the front of the input, whether one is left
 // at the end, and whether to read on.

@@ -12,5 +12,10 @@ fn main() {
     let stored = files::read_file(b"unit.sto", &mut store);
     let kept = files::read_file(b"unit.rst", &mut image);
     let addressed = files::read_file(b"unit.adr", &mut adr);
-    input::trace(&map[..mapped], &mut store[..stored], &image[..kept], &adr[..addressed]);
+    input::trace(
+        &map[..mapped],
+        &mut store[..stored],
+        &image[..kept],
+        &adr[..addressed],
+    );
 }

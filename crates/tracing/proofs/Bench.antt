@@ -8,11 +8,9 @@ use native.Mathlib.Nat.{eq-zero-or-pos}
 use native.Mathlib.Omega.{arith}
 use borrow.Author.Tests.{eq-eqb}
 use lib.ListN.{length}
-use Rattle.banks.specs.Rules.{checkNumber}
-use Rattle.frames.specs.Bench.{Case}
-use Rattle.frames.specs.Bench.{sheet as framesSheet}
 use Rattle.laws.specs.Choice.{if_then_else_}
 use Rattle.laws.specs.Lists.{some}
+use Rattle.banks.specs.Rules.{checkNumber}
 use Rattle.unit.specs.Run.{Input, runOf}
 use Rattle.unit.specs.Bench.{benchMap, benchStore, benchImage, benchWho, benchRun, p11, p12, late, overrun}
 use Rattle.unit.specs.Bench.{Line, says, Runs, Hold}
@@ -22,6 +20,7 @@ use Rattle.tracing.specs.Entry.{entryOf, entryAt, wholeRecords, isBroken
 use Rattle.tracing.specs.Trace.{inputsOf, broken, tracedOf, whoOf, fileNumber, closed, traceOf}
 use Rattle.tracing.specs.Bench.{benchAdr, p11Records, benchTrace, BenchTraces, BenchFiles}
 use Rattle.tracing.proofs.Starts.{files-numbered}
+use Rattle.composing.specs.Bench.{Case, sheet as framesSheet}
 
 -- the runs' lines stand behind the frames'
 runs-lines : (cases : List Case) (lines : List Line) → Hold (map says cases ++ lines) → Hold lines

@@ -16,11 +16,12 @@ use Rattle.banks.specs.Rules.{checkNumber}
 use Rattle.banks.specs.Facts.{Stands}
 use Rattle.banks.proofs.Standing.{stands}
 use Rattle.hearing.specs.declared.rooms.Heard.{Heard}
-use Rattle.unit.specs.Rules.{stateHolds}
+use Rattle.rooms.specs.Rules.{stateHolds}
+use Rattle.rooms.specs.Reply.{refusing}
+use Rattle.rooms.specs.declared.state.State.{State}
+use Rattle.rooms.specs.declared.reply.Stepped.{Stepped}
 use Rattle.unit.specs.Promises.{InOrder}
-use Rattle.unit.specs.Step.{refusing, powerNumber, stepNumber, frameOf, powerOf, stepOf, powerOnOf}
-use Rattle.unit.specs.declared.state.State.{State}
-use Rattle.unit.specs.declared.state.Stepped.{Stepped}
+use Rattle.unit.specs.Step.{powerNumber, stepNumber, frameOf, powerOf, stepOf, powerOnOf}
 use Rattle.unit.proofs.Numbers.{calls-accepted, calls-refused, tests-in-order}
 use Rattle.unit.proofs.Accepted.{accepted-again}
 use Rattle.tracing.specs.Entry.{isBroken, isFramed}

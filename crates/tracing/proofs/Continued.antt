@@ -10,8 +10,8 @@ use lib.Dec.{eqb}
 use lib.ListN.{length}
 use Rattle.laws.specs.Choice.{if_then_else_}
 use Rattle.laws.specs.Lists.{some}
+use Rattle.rooms.specs.declared.state.State.{State}
 use Rattle.unit.specs.Run.{power-on, hears, inputOf, outputOf}
-use Rattle.unit.specs.declared.state.State.{State}
 use Rattle.tracing.specs.Entry.{isBroken}
 use Rattle.tracing.specs.Trace.{Traced, tracedOf, broken, closed}
 use Rattle.tracing.specs.Run.{behind, continued}

@@ -10,10 +10,10 @@ use borrow.Author.Tests.{eq-eqb, eqb-true}
 use lib.ListN.{length, getD, length-append, List·getD-append}
 use lib.Seq.{getD-append-add}
 use Rattle.laws.specs.Lists.{items, every}
-use Rattle.tracing.proofs.Sequences.{items-same, items-append}
 use Rattle.laws.proofs.Tests.{both}
+use Rattle.rooms.specs.declared.state.State.{State}
 use Rattle.unit.specs.Step.{startOf}
-use Rattle.unit.specs.declared.state.State.{State}
+use Rattle.tracing.proofs.Sequences.{items-same, items-append}
 use Rattle.tracing.specs.Entry.{entryAt, entries, wholeRecords}
 use Rattle.tracing.specs.Trace.{Traced, tracedOf, whoOf, fileNumber, closed, traceOf}
 use Rattle.tracing.specs.Run.{continued}

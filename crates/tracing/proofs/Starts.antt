@@ -20,7 +20,7 @@ use Rattle.laws.proofs.Settled.{settles}
 use Rattle.banks.specs.Map.{recordsOf}
 use Rattle.banks.specs.Rules.{sizeHolds, fieldsHold, rising, lengthsHold, placesHold, checkTests, checkNumber}
 use Rattle.hearing.specs.declared.rooms.Who.{Who}
-use Rattle.unit.specs.Rules.{addressHolds}
+use Rattle.rooms.specs.Rules.{addressHolds}
 use Rattle.unit.specs.Step.{startNumber}
 use Rattle.tracing.specs.Trace.{whoOf, adrTests, fileTests, fileNumber, traceOf}
 use Rattle.tracing.specs.Promises.{FilesNumbered, FilesSettled, OneByteMore}

@@ -15,10 +15,11 @@ use Rattle.laws.specs.Parts.{put}
 use Rattle.laws.proofs.Items.{items-start, items-end, items-cons}
 use Rattle.laws.proofs.Parts.{length-put}
 use Rattle.laws.proofs.Tests.{if-lt, both, denied, not-denied}
-use Rattle.unit.specs.Step.{refusing, powerNumber}
+use Rattle.rooms.specs.Reply.{refusing}
+use Rattle.rooms.specs.declared.state.State.{State}
+use Rattle.rooms.specs.declared.reply.Stepped.{Stepped}
+use Rattle.unit.specs.Step.{powerNumber}
 use Rattle.unit.specs.Run.{inputOf, outputOf}
-use Rattle.unit.specs.declared.state.State.{State}
-use Rattle.unit.specs.declared.state.Stepped.{Stepped}
 use Rattle.tracing.specs.Entry.{entryAt, entries, isBroken, Reads}
 use Rattle.tracing.specs.Trace.{Traced, tracedOf}
 use Rattle.tracing.specs.Run.{turnOf, behind, continued, soFar, Begins, Turns, roomFor, Runs}

@@ -12,10 +12,10 @@ use Rattle.laws.specs.Choice.{if_then_else_}
 use Rattle.laws.specs.Lists.{every, some}
 use Rattle.laws.specs.Settled.{Settles}
 use Rattle.banks.specs.Rules.{checkNumber}
-use Rattle.unit.specs.Rules.{addressHolds}
+use Rattle.rooms.specs.Rules.{addressHolds}
+use Rattle.rooms.specs.declared.state.State.{State}
 use Rattle.unit.specs.Step.{powerNumber, startNumber, startOf}
 use Rattle.unit.specs.Promises.{GivenBy}
-use Rattle.unit.specs.declared.state.State.{State}
 use Rattle.tracing.specs.Entry.{entries, wholeRecords, isBroken, isFramed, Reads}
 use Rattle.tracing.specs.Trace.{Traced, tracedOf, broken, whoOf, fileTests, fileNumber, closed, traceOf}
 use Rattle.tracing.specs.Run.{turnOf, continued, Runs}

@@ -8,9 +8,10 @@ use lib.Dec.{ltb}
 use lib.ListN.{length, take, drop}
 use Rattle.laws.specs.Choice.{if_then_else_}
 use Rattle.laws.specs.Outcome.{Outcome, leaves}
-use Rattle.unit.specs.Step.{refusing, stepOf, powerOnOf, powerNumber}
-use Rattle.unit.specs.declared.state.State.{State}
-use Rattle.unit.specs.declared.state.Stepped.{Stepped}
+use Rattle.rooms.specs.Reply.{refusing}
+use Rattle.rooms.specs.declared.state.State.{State}
+use Rattle.rooms.specs.declared.reply.Stepped.{Stepped}
+use Rattle.unit.specs.Step.{stepOf, powerOnOf, powerNumber}
 use Rattle.tracing.specs.Entry.{entryAt}
 use Rattle.tracing.specs.Trace.{Traced, tracedOf}
 use Rattle.tracing.specs.declared.entry.Entry.{Entry}

@@ -11,11 +11,11 @@ use Rattle.laws.specs.Numbers.{Test, test, firstFailing}
 use Rattle.laws.specs.Outcome.{Outcome}
 use Rattle.banks.specs.Rules.{checkTests}
 use Rattle.hearing.specs.declared.rooms.Who.{Who}
-use Rattle.unit.specs.Rules.{addressHolds}
+use Rattle.rooms.specs.Rules.{addressHolds}
+use Rattle.rooms.specs.declared.state.State.{State}
+use Rattle.rooms.specs.declared.reply.Stepped.{Stepped}
 use Rattle.unit.specs.Step.{startOf}
 use Rattle.unit.specs.Run.{Input, power-on, hears, Run, runFrom}
-use Rattle.unit.specs.declared.state.State.{State}
-use Rattle.unit.specs.declared.state.Stepped.{Stepped}
 use Rattle.tracing.specs.Entry.{fourBytes, wholeRecords, isBroken}
 use Rattle.tracing.specs.declared.entry.Entry.{Entry}
 

@@ -37,6 +37,6 @@ pub fn number_of_files(map: &[u8], store: &[u8], image: &[u8], adr: &[u8]) -> u8
         return number;
     }
     let who = who_of(adr);
-    let holds = unit::address_holds(who.address);
+    let holds = rooms::address_holds(who.address);
     if (adr.len() == 5) & holds { 0 } else { 6 }
 }

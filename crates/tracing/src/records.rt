@@ -6,7 +6,7 @@ ghost use lib.ListN.{length};
 ghost use Rattle.laws.specs.Choice.{if_then_else_};
 ghost use Rattle.laws.specs.Outcome.{Gives};
 ghost use Rattle.laws.specs.Parts.{put};
-ghost use Rattle.unit.specs.Step.{refusing, powerNumber};
+ghost use Rattle.unit.specs.Step.{powerNumber};
 ghost use Rattle.unit.specs.Run.{outputOf};
 ghost use Rattle.tracing.specs.Entry.{entries, isFramed};
 ghost use Rattle.tracing.specs.Trace.{tracedOf};
@@ -14,9 +14,10 @@ ghost use Rattle.tracing.specs.Run.{turnOf, Begins, Turns, roomFor, Runs
 use crate::entry::Entry;
 use crate::entry::entry_at;
 use crate::entry::is_broken;
-use unit::Reply;
-use unit::State;
-use unit::Stepped;
+use rooms::Reply;
+use rooms::State;
+use rooms::Stepped;
+use rooms::refusing;
 
 // How far a run has come: the state, the records answered, and whether 13 ended it.
 pub struct Ran {
@@ -42,20 +43,6 @@ fn write_reply(output: &mut [u8], at: usize, reply: Reply)
     output[at + 3] = 0;
 }
 
-fn refuse(state: State, number: u8) -> Stepped
-    ensures { λ r. ⌜ r ≡ refusing state number ⌝ }
-{
-    let reply = Reply {
-        number: number,
-        answered: false,
-        answer: 0,
-    };
-    Stepped {
-        reply: reply,
-        state: state,
-    }
-}
-
 // Internal: what the record's public call would do. Its number is known from the one check.
 fn step_entry(
     map: &[u8],
@@ -71,18 +58,18 @@ fn step_entry(
     match entry {
         Entry::Hears(heard) => {
             if number != 0 {
-                return refuse(state, number);
+                return refusing(state, number);
             }
             unit::frame_step(map, store, image, state, heard)
         }
         Entry::PowerOn => {
             if number != 0 {
-                return refuse(state, number);
+                return refusing(state, number);
             }
             let who = state.who;
             unit::power_step(map, store, image, who)
         }
-        Entry::Broken => refuse(state, 13),
+        Entry::Broken => refusing(state, 13),
     }
 }
 

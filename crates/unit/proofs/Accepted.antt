@@ -12,14 +12,14 @@ use Rattle.laws.specs.Outcome.{Outcome}
 use Rattle.laws.proofs.Tests.{if-eq, both}
 use Rattle.banks.specs.Map.{writable}
 use Rattle.memory.specs.Promises.{ChangesOnly}
-use Rattle.unit.specs.State.{zeroState}
+use Rattle.rooms.specs.State.{zeroState}
+use Rattle.rooms.specs.declared.state.State.{State}
+use Rattle.rooms.specs.declared.reply.Stepped.{Stepped}
 use Rattle.unit.specs.Step.{startOf, powerNumber, powerOnOf, stepOf, unless}
-use Rattle.unit.specs.Keeping.{Store-kept, OneValue, One-value-changes, Calls-power-on}
-use Rattle.unit.specs.Keeping.{PassesAgain, Accepted-again, AllAccepted, isInput, Run-accepted}
+use Rattle.unit.specs.Keeping.{CallsKeepStore, OneValue, OneValueChanges, CallsPowerOn}
+use Rattle.unit.specs.Keeping.{PassesAgain, CallsAcceptedAgain, AllAccepted, isInput, RunAccepted}
 use Rattle.unit.specs.Run.{Input, power-on, hears, inputOf}
 use Rattle.unit.specs.Promises.{numberOf}
-use Rattle.unit.specs.declared.state.State.{State}
-use Rattle.unit.specs.declared.state.Stepped.{Stepped}
 use Rattle.unit.proofs.Numbers.{calls-accepted, calls-numbered}
 use Rattle.unit.proofs.Sound.{start-sound, power-sound, step-sound, sound-power, sound-step}
 use Rattle.unit.proofs.Changes.{unchanged, changes, frame-sound, powered-changes, powered-sound, powers-on}
@@ -29,7 +29,7 @@ unless-store : (P : List ℕ → Type 0) (n : ℕ) (s : State) (store : List ℕ
     → P store → (n ≡ 0 → P (o .store)) → P (unless n s store o .store)
 unless-store P n s store o base accepted = if-eq (λ (x : Outcome Stepped). P (x .store)) n 0 accepted (λ e. base)
 
-pub store-kept : Store-kept
+pub store-kept : CallsKeepStore
 unfolding startOf powerOnOf stepOf
 store-kept map store image =
     let kept = length image in
@@ -47,13 +47,13 @@ store-kept map store image =
           (λ e. changes map store image s heard (step-sound map store kept s (heard .frame) e) .writable-only);
     }
 
-pub one-value-changes : One-value-changes
+pub one-value-changes : OneValueChanges
 unfolding stepOf
 one-value-changes map store image s heard no-reset =
     unless-store (λ after. (after ≡ store) ⊎ OneValue map store after) _ s store _ (inl refl)
     (λ e. changes map store image s heard (step-sound map store (length image) s (heard .frame) e) .one no-reset)
 
-pub calls-power-on : Calls-power-on
+pub calls-power-on : CallsPowerOn
 calls-power-on map store image =
     let accepted = calls-accepted map store image in
     record {
@@ -64,7 +64,7 @@ calls-power-on map store image =
           (accepted .power-on s e);
     }
 
-pub accepted-again : Accepted-again
+pub accepted-again : CallsAcceptedAgain
 accepted-again map store image =
     let kept = length image in
     let accepted = calls-accepted map store image in
@@ -102,5 +102,5 @@ module _ (map image : List ℕ) where
       let k = one-accepted store s e x (b .0) in
       (k .0, all-accepted _ _ (k .1) xs (b .1))
 
-pub run-accepted : Run-accepted
+pub run-accepted : RunAccepted
 run-accepted map store image who e xs i = all-accepted map image _ _ (accepted-again map store image .start who e) xs i

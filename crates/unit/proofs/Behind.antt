@@ -13,9 +13,9 @@ use Rattle.banks.specs.Rules.{checkNumber}
 use Rattle.banks.specs.Facts.{Stands}
 use Rattle.banks.proofs.Standing.{check-stands}
 use Rattle.hearing.specs.declared.rooms.Who.{Who}
-use Rattle.unit.specs.Rules.{addressHolds, stateHolds}
+use Rattle.rooms.specs.Rules.{addressHolds, stateHolds}
+use Rattle.rooms.specs.declared.state.State.{State}
 use Rattle.unit.specs.Step.{powerTests, powerNumber, stepNumber, startNumber}
-use Rattle.unit.specs.declared.state.State.{State}
 use Rattle.unit.proofs.Numbers.{tests-in-order}
 
 -- a number that is not 0 is that of the call, if the tests before it come first

@@ -5,9 +5,6 @@ use mathlib.Core.List.{List, [], _∷_, _++_, map}
 use Rattle.laws.specs.Bits.{bits}
 use Rattle.laws.specs.Numbers.{firstFailing}
 use Rattle.laws.specs.Parts.{part, put}
-use Rattle.frames.specs.Bench.{Case, AllHold}
-use Rattle.frames.specs.Bench.{sheet as framesSheet}
-use Rattle.frames.proofs.Bench.{sheet-holds as frames-hold}
 use Rattle.frames.specs.Kind.{kindOf}
 use Rattle.frames.specs.Values.{targetAt}
 use Rattle.frames.specs.Read.{readOf, commandOf, addressOf, targetOf, eventOf, schemeOf, otherOf, fieldOf}
@@ -16,21 +13,23 @@ use Rattle.banks.specs.Map.{recordAt, recordsOf}
 use Rattle.banks.specs.Rules.{sizeHolds, lengthsHold, placesHold, bankHolds, banksHold, headByteHolds}
 use Rattle.banks.specs.Rules.{headHolds, headBytesHold}
 use Rattle.banks.specs.Lookup.{holder, ifFirst, beginner, valueOf, putValue, byteAt, lockByte}
-use Rattle.hearing.specs.Meaning.{deviceCommand, firstSpecial, specialCommand, meaningOf}
-use Rattle.hearing.specs.Pairs.{passed, inTime, completes}
 use Rattle.memory.specs.Staged.{unlocked, taken, bytesWith, takeByte, writeFound, writeAt, writeOf}
-use Rattle.memory.specs.Latched.{latchFrom, showByte, readAt}
-use Rattle.memory.specs.Latched.{readOf as shownOf}
+use Rattle.memory.specs.Latched.{latchFrom, showByte, readAt, readOf as shownOf}
 use Rattle.memory.specs.Filled.{selects, chosen, fresh, filledOf}
 use Rattle.memory.specs.Rooms.{stagedIn, stagedHolds, latchedIn, latchHolds, zeroFrom}
-use Rattle.unit.specs.State.{withWho, withRegisters, withWaiting, withDoor, withLatch, poweredOn}
-use Rattle.unit.specs.Rules.{waitingHolds, doorHolds, stateHolds}
-use Rattle.unit.specs.Due.{dtrOf, withDtr, groupByte, groupWord, shortDue, writeDue, readDue, onceDue, pairDue}
-use Rattle.unit.specs.Due.{dueBy, dueOf}
-use Rattle.unit.specs.Step.{quiet, answering, refusing, hearing, raised, written, readBy, done, frameOf, powerOf}
+use Rattle.hearing.specs.Meaning.{deviceCommand, firstSpecial, specialCommand, meaningOf}
+use Rattle.hearing.specs.Pairs.{passed, inTime, completes}
+use Rattle.rooms.specs.State.{withWho, withRegisters, withWaiting, withDoor, withLatch, poweredOn}
+use Rattle.rooms.specs.Rules.{waitingHolds, doorHolds, stateHolds}
+use Rattle.rooms.specs.Due.{dtrOf, withDtr, groupByte, groupWord, shortDue, writeDue, readDue, onceDue, pairDue}
+use Rattle.rooms.specs.Due.{dueBy, dueOf}
+use Rattle.rooms.specs.Reply.{quiet, answering, refusing}
+use Rattle.unit.specs.Step.{hearing, raised, written, readBy, done, frameOf, powerOf}
 use Rattle.unit.specs.Step.{stepNumber, powerNumber, startNumber, stepOf, powerOnOf, startOf}
 use Rattle.unit.specs.Run.{inputOf, outputOf, runOf}
 use Rattle.unit.specs.Bench.{Line, says, Hold, p11, p12, late, overrun, SheetHolds}
+use Rattle.composing.specs.Bench.{Case, AllHold, sheet as framesSheet}
+use Rattle.composing.proofs.Bench.{sheet-holds as frames-hold}
 
 -- what each floor computes with: to unfold one of these is to unfold all on its line
 unfoldable pub reading : Unit {0}

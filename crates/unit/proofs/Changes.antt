@@ -16,9 +16,6 @@ use Rattle.banks.specs.Facts.{Member, Stands}
 use Rattle.banks.specs.declared.record.Record.{Record}
 use Rattle.banks.proofs.Standing.{check-stands}
 use Rattle.banks.proofs.Locations.{holder-within}
-use Rattle.hearing.specs.Meaning.{meaningOf, closes}
-use Rattle.hearing.specs.declared.rooms.Who.{Who}
-use Rattle.hearing.specs.declared.rooms.Heard.{Heard}
 use Rattle.memory.specs.Promises.{ChangesOnly, Takes, locksBank}
 use Rattle.memory.specs.Staged.{writeOf}
 use Rattle.memory.specs.Latched.{noneLatched}
@@ -31,16 +28,20 @@ use Rattle.memory.proofs.Changes.{write-changes-only}
 use Rattle.memory.proofs.Fills.{chosen-writable, fill-value, fill-changes-only}
 use Rattle.memory.proofs.Locks.{fill-locks}
 use Rattle.memory.specs.declared.filled.Filling.the-variants.{PowerOn, Reset}
-use Rattle.unit.specs.State.{poweredOn}
-use Rattle.unit.specs.Rules.{addressHolds, waitingHolds}
-use Rattle.unit.specs.Due.{dueOf}
-use Rattle.unit.specs.Step.{quiet, hearing, written, done, frameOf, powerOf}
+use Rattle.hearing.specs.Meaning.{meaningOf, closes}
+use Rattle.hearing.specs.declared.rooms.Who.{Who}
+use Rattle.hearing.specs.declared.rooms.Heard.{Heard}
+use Rattle.rooms.specs.State.{poweredOn}
+use Rattle.rooms.specs.Rules.{addressHolds, waitingHolds}
+use Rattle.rooms.specs.Due.{dueOf}
+use Rattle.rooms.specs.Reply.{quiet}
+use Rattle.rooms.specs.declared.state.State.{State}
+use Rattle.rooms.specs.declared.reply.Stepped.{Stepped}
+use Rattle.rooms.specs.declared.due.Due.{Due}
+use Rattle.rooms.specs.declared.due.Due.the-variants.{Nothing, Waits, Opens, Resets, Becomes, Loads, Answers}
+use Rattle.rooms.specs.declared.due.Due.the-variants.{Writes, Reads}
+use Rattle.unit.specs.Step.{hearing, written, done, frameOf, powerOf}
 use Rattle.unit.specs.Keeping.{OneValue, StorePowered, PowersOn}
-use Rattle.unit.specs.declared.state.State.{State}
-use Rattle.unit.specs.declared.state.Stepped.{Stepped}
-use Rattle.unit.specs.declared.due.Due.{Due}
-use Rattle.unit.specs.declared.due.Due.the-variants.{Nothing, Waits, Opens, Resets, Becomes, Loads, Answers}
-use Rattle.unit.specs.declared.due.Due.the-variants.{Writes, Reads}
 use Rattle.unit.proofs.Keeping.{shut-holds, heard-staged, frame-keeps}
 use Rattle.unit.proofs.Sound.{Sound}
 

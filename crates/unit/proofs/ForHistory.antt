@@ -21,37 +21,35 @@ use Rattle.banks.specs.Rules.{checkTests, checkNumber}
 use Rattle.banks.specs.declared.record.Record.{Record}
 use Rattle.banks.specs.Facts.{Stands}
 use Rattle.banks.proofs.Standing.{stands}
+use Rattle.memory.specs.Staged.{writeOf}
+use Rattle.memory.specs.Rooms.{stagedHolds}
+use Rattle.memory.specs.Filled.{filledOf}
+use Rattle.memory.specs.declared.filled.Filling.the-variants.{PowerOn, Reset}
 use Rattle.hearing.specs.Meaning.{meaningOf}
 use Rattle.hearing.specs.Pairs.{noneWaits, waitsFor, completes}
 use Rattle.hearing.specs.declared.rooms.Who.{Who}
 use Rattle.hearing.specs.declared.rooms.Heard.{Heard}
 use Rattle.hearing.specs.declared.rooms.Waiting.{Waiting}
-use Rattle.hearing.specs.declared.meaning.Once.the-variants.{QueryMissingShortAddress, QueryContentDtr}
+use Rattle.hearing.specs.declared.meaning.Once.the-variants.{QueryMissingShortAddress, QueryContentDtr, SetDtr, SetDtrs}
 use Rattle.hearing.specs.declared.meaning.Once.the-variants.{QueryDeviceGroups}
 use Rattle.hearing.specs.declared.meaning.Once.the-variants.{ReadMemoryLocation, WriteMemoryLocation, DirectWriteMemory}
-use Rattle.hearing.specs.declared.meaning.Once.the-variants.{SetDtr, SetDtrs}
 use Rattle.hearing.specs.declared.meaning.Twice.{Twice}
 use Rattle.hearing.specs.declared.meaning.Twice.the-variants.{ResetMemoryBank, SetShortAddress, EnableWriteMemory}
 use Rattle.hearing.specs.declared.meaning.Twice.the-variants.{AddToDeviceGroups, RemoveFromDeviceGroups}
 use Rattle.hearing.specs.declared.meaning.Meaning.{Meaning}
 use Rattle.hearing.specs.declared.meaning.Meaning.the-variants.{Foreign, NotObeyed, AtOnce, NeedsPair}
-use Rattle.memory.specs.Staged.{writeOf}
-use Rattle.memory.specs.Rooms.{stagedHolds}
-use Rattle.memory.specs.Filled.{filledOf}
-use Rattle.memory.specs.declared.filled.Filling.the-variants.{PowerOn, Reset}
-use Rattle.unit.specs.State.{withWho, withRegisters, withWaiting, withDoor, withLatch, zeroRegisters, shutDoor}
-use Rattle.unit.specs.State.{openDoor, poweredOn, zeroState}
-use Rattle.unit.specs.Rules.{addressHolds, waitingHolds, doorHolds, stateHolds}
-use Rattle.unit.specs.Due.{withDtr, groupWord, inGroups, shortDue, writeDue, readDue, onceDue, pairDue, dueBy}
-use Rattle.unit.specs.Due.{dueOf}
-use Rattle.unit.specs.Step.{quiet, answering, refusing, hearing, raised, written, readBy, done, frameOf, powerOf}
+use Rattle.rooms.specs.State.{withWho, withRegisters, withWaiting, withDoor, withLatch, zeroRegisters, shutDoor}
+use Rattle.rooms.specs.State.{openDoor, poweredOn, zeroState}
+use Rattle.rooms.specs.Rules.{addressHolds, waitingHolds, doorHolds, stateHolds}
+use Rattle.rooms.specs.Due.{withDtr, groupWord, inGroups, shortDue, writeDue, readDue, onceDue, pairDue, dueBy, dueOf}
+use Rattle.rooms.specs.Reply.{quiet, answering, refusing}
+use Rattle.rooms.specs.declared.state.Registers.{Registers}
+use Rattle.rooms.specs.declared.state.Door.{Door}
+use Rattle.rooms.specs.declared.state.State.{State}
+use Rattle.rooms.specs.declared.reply.Stepped.{Stepped}
+use Rattle.rooms.specs.declared.due.Due.the-variants.{Nothing, Becomes, Answers, Reads}
+use Rattle.unit.specs.Step.{hearing, raised, written, readBy, done, frameOf, powerOf, stepOf, powerOnOf, startOf}
 use Rattle.unit.specs.Step.{stepTests, stepNumber, powerTests, powerNumber, startTests, startNumber, unless}
-use Rattle.unit.specs.Step.{stepOf, powerOnOf, startOf}
-use Rattle.unit.specs.declared.state.Registers.{Registers}
-use Rattle.unit.specs.declared.state.Door.{Door}
-use Rattle.unit.specs.declared.state.State.{State}
-use Rattle.unit.specs.declared.state.Stepped.{Stepped}
-use Rattle.unit.specs.declared.due.Due.the-variants.{Nothing, Becomes, Answers, Reads}
 
 -- ---- an accepted call
 

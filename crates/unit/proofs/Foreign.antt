@@ -18,17 +18,18 @@ use Rattle.hearing.specs.Pairs.{noneWaits, waitsFor, completes}
 use Rattle.hearing.specs.declared.rooms.Who.{Who}
 use Rattle.hearing.specs.declared.rooms.Heard.{Heard}
 use Rattle.hearing.specs.declared.meaning.Meaning.the-variants.{Foreign}
-use Rattle.unit.specs.State.{withWaiting, withDoor, shutDoor}
-use Rattle.unit.specs.Rules.{addressHolds, waitingHolds, stateHolds}
-use Rattle.unit.specs.Due.{dueBy, dueOf}
-use Rattle.unit.specs.Step.{quiet, hearing, done, frameOf, stepOf}
+use Rattle.rooms.specs.State.{withWaiting, withDoor, shutDoor}
+use Rattle.rooms.specs.Rules.{addressHolds, waitingHolds, stateHolds}
+use Rattle.rooms.specs.Due.{dueBy, dueOf}
+use Rattle.rooms.specs.Reply.{quiet}
+use Rattle.rooms.specs.declared.state.State.{State}
+use Rattle.rooms.specs.declared.reply.Stepped.{Stepped}
+use Rattle.rooms.specs.declared.due.Due.the-variants.{Waits}
+use Rattle.rooms.proofs.Dues.{pair-closes, pair-waits, waits-pair}
+use Rattle.unit.specs.Step.{hearing, done, frameOf, stepOf}
 use Rattle.unit.specs.Promises.{numberOf}
-use Rattle.unit.specs.Leaving.{Foreign-passes-by, noCommand, next, Interrupted, Event-breaks-pair}
-use Rattle.unit.specs.declared.state.State.{State}
-use Rattle.unit.specs.declared.state.Stepped.{Stepped}
-use Rattle.unit.specs.declared.due.Due.the-variants.{Waits}
+use Rattle.unit.specs.Leaving.{ForeignPassesBy, noCommand, next, Interrupted, EventBreaksPair}
 use Rattle.unit.proofs.Numbers.{calls-accepted, calls-numbered}
-use Rattle.unit.proofs.Dues.{pair-closes, pair-waits, waits-pair}
 
 -- where none waits, what is not in use is zero
 pub none-waiting : (s : State) → waitingHolds s ≡ true → s .waiting .held ≡ false → s .waiting ≡ noneWaits
@@ -44,7 +45,7 @@ waiting-holds : (rs : List Record) (store : List ℕ) (s : State) → stateHolds
 unfolding stateHolds
 waiting-holds rs store s h = both (waitingHolds s) _ (both (addressHolds (s .who .address)) _ h .1) .0
 
-pub foreign-passes-by : Foreign-passes-by
+pub foreign-passes-by : ForeignPassesBy
 unfolding frameOf dueOf dueBy done hearing withWaiting
 foreign-passes-by rs store image s heard e =
     record {
@@ -118,7 +119,7 @@ module _ (map store image : List ℕ) (s : State) (first between again : Heard) 
         e ∙ accepted-step map store image (halved s first) again (sym (ap numberOf e) ∙ i .last-accepted)
         ∙ first-half (recordsOf map) store image (halved s first) again due-is
 
-pub event-breaks-pair : Event-breaks-pair
+pub event-breaks-pair : EventBreaksPair
 unfolding quiet withWaiting withDoor
 event-breaks-pair map store image s first between again i =
     let w = three-is map store image s first between again i in

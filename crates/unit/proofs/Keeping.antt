@@ -12,22 +12,23 @@ use Rattle.laws.proofs.Sides.{and-right}
 use Rattle.banks.specs.Map.{recordsOf}
 use Rattle.banks.specs.Rules.{placed}
 use Rattle.banks.specs.declared.record.Record.{Record}
-use Rattle.hearing.specs.Meaning.{meaningOf}
-use Rattle.hearing.specs.declared.rooms.Who.{Who}
-use Rattle.hearing.specs.declared.rooms.Heard.{Heard}
 use Rattle.memory.specs.Rooms.{stagedHolds, latchHolds}
 use Rattle.memory.proofs.StagedRoom.{none-staged-holds, write-keeps-rule}
 use Rattle.memory.proofs.LatchRoom.{read-keeps-rule}
-use Rattle.unit.specs.State.{withWho, withRegisters, withWaiting, withDoor, withLatch, shutDoor, openDoor}
-use Rattle.unit.specs.Rules.{addressHolds, needsPair, waitingHolds, doorHolds, stateHolds}
-use Rattle.unit.specs.Step.{quiet, answering, hearing, raised, written, readBy, done, frameOf}
-use Rattle.unit.specs.declared.state.Registers.{Registers}
-use Rattle.unit.specs.declared.state.State.{State}
-use Rattle.unit.specs.declared.state.Stepped.{Stepped}
-use Rattle.unit.specs.declared.due.Due.{Due}
-use Rattle.unit.specs.declared.due.Due.the-variants.{Nothing, Waits, Opens, Resets, Becomes, Loads, Answers}
-use Rattle.unit.specs.declared.due.Due.the-variants.{Writes, Reads}
-use Rattle.unit.proofs.Dues.{Cases, by-due}
+use Rattle.hearing.specs.Meaning.{meaningOf}
+use Rattle.hearing.specs.declared.rooms.Who.{Who}
+use Rattle.hearing.specs.declared.rooms.Heard.{Heard}
+use Rattle.rooms.specs.State.{withWho, withRegisters, withWaiting, withDoor, withLatch, shutDoor, openDoor}
+use Rattle.rooms.specs.Rules.{addressHolds, needsPair, waitingHolds, doorHolds, stateHolds}
+use Rattle.rooms.specs.Reply.{quiet, answering}
+use Rattle.rooms.specs.declared.state.Registers.{Registers}
+use Rattle.rooms.specs.declared.state.State.{State}
+use Rattle.rooms.specs.declared.reply.Stepped.{Stepped}
+use Rattle.rooms.specs.declared.due.Due.{Due}
+use Rattle.rooms.specs.declared.due.Due.the-variants.{Nothing, Waits, Opens, Resets, Becomes, Loads, Answers}
+use Rattle.rooms.specs.declared.due.Due.the-variants.{Writes, Reads}
+use Rattle.rooms.proofs.Dues.{Cases, by-due}
+use Rattle.unit.specs.Step.{hearing, raised, written, readBy, done, frameOf}
 
 -- ---- the rules of a state, one by one
 

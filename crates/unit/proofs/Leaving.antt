@@ -9,16 +9,17 @@ use Rattle.laws.specs.Outcome.{Outcome}
 use Rattle.banks.specs.declared.record.Record.{Record}
 use Rattle.memory.specs.Staged.{writeOf}
 use Rattle.hearing.specs.declared.rooms.Heard.{Heard}
-use Rattle.unit.specs.State.{withWho, withRegisters, withWaiting, withDoor, withLatch}
-use Rattle.unit.specs.Due.{withDtr}
-use Rattle.unit.specs.Step.{quiet, answering, hearing, raised, written, readBy, done, frameOf}
-use Rattle.unit.specs.Leaving.{Dtr0Rises, Leaves, Frames-leave}
-use Rattle.unit.specs.declared.state.Registers.{Registers}
-use Rattle.unit.specs.declared.state.State.{State}
-use Rattle.unit.specs.declared.state.Stepped.{Stepped}
-use Rattle.unit.proofs.Dues.{Cases, by-due}
-use Rattle.unit.specs.declared.due.Due.{Due}
-use Rattle.unit.specs.declared.due.Due.the-variants.{Nothing, Answers}
+use Rattle.rooms.specs.State.{withWho, withRegisters, withWaiting, withDoor, withLatch}
+use Rattle.rooms.specs.Due.{withDtr}
+use Rattle.rooms.specs.Reply.{quiet, answering}
+use Rattle.rooms.specs.declared.state.Registers.{Registers}
+use Rattle.rooms.specs.declared.state.State.{State}
+use Rattle.rooms.specs.declared.reply.Stepped.{Stepped}
+use Rattle.rooms.proofs.Dues.{Cases, by-due}
+use Rattle.rooms.specs.declared.due.Due.{Due}
+use Rattle.rooms.specs.declared.due.Due.the-variants.{Nothing, Answers}
+use Rattle.unit.specs.Step.{hearing, raised, written, readBy, done, frameOf}
+use Rattle.unit.specs.Leaving.{Dtr0Rises, Leaves, FramesLeave}
 
 -- the setters of the rooms
 rooms : Unit {0}
@@ -73,7 +74,7 @@ module _ (rs : List Record) (store image : List ℕ) (s : State) (heard : Heard)
         reads = λ bank location. (refl, rises location _ refl, refl, refl, refl);
       }
 
-pub frames-leave : Frames-leave
+pub frames-leave : FramesLeave
 unfolding frameOf Left
 frames-leave rs store image s heard due e =
     rw (← e) (by-due rs s heard (Left rs store image s heard) (all-leave rs store image s heard))

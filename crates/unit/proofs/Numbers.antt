@@ -19,22 +19,21 @@ use Rattle.banks.specs.Rules.{checkTests, checkNumber}
 use Rattle.banks.specs.declared.record.Record.{Record}
 use Rattle.hearing.specs.declared.rooms.Heard.{Heard}
 use Rattle.hearing.specs.declared.rooms.Who.{Who}
-use Rattle.unit.specs.Step.{quiet, answering, refusing, written, readBy, done, frameOf, powerOf, unless}
+use Rattle.rooms.specs.Reply.{quiet, answering, refusing}
+use Rattle.rooms.specs.State.{zeroState}
+use Rattle.rooms.specs.Rules.{addressHolds, stateHolds}
+use Rattle.rooms.specs.Due.{dueOf}
+use Rattle.rooms.specs.declared.state.State.{State}
+use Rattle.rooms.specs.declared.reply.Stepped.{Stepped}
+use Rattle.rooms.specs.declared.due.Due.{Due}
+use Rattle.rooms.specs.declared.due.Due.the-variants.{Nothing, Waits, Opens, Resets, Becomes, Loads, Answers}
+use Rattle.rooms.specs.declared.due.Due.the-variants.{Writes, Reads}
+use Rattle.unit.specs.Step.{written, readBy, done, frameOf, powerOf, unless, stepTests, stepNumber, stepOf}
 use Rattle.unit.specs.Step.{startTests, startNumber, startOf, powerTests, powerNumber, powerOnOf}
-use Rattle.unit.specs.Step.{stepTests, stepNumber, stepOf}
-use Rattle.unit.specs.State.{zeroState}
-use Rattle.unit.specs.Rules.{addressHolds, stateHolds}
-use Rattle.unit.specs.Due.{dueOf}
-use Rattle.unit.specs.Promises.{Tests-in-order}
-use Rattle.unit.specs.Promises.{GivenBy, numberOf, Refuses, Calls-settled, Calls-numbered, Calls-refused}
-use Rattle.unit.specs.Promises.{Calls-accepted}
-use Rattle.unit.specs.declared.state.State.{State}
-use Rattle.unit.specs.declared.state.Stepped.{Stepped}
-use Rattle.unit.specs.declared.due.Due.{Due}
-use Rattle.unit.specs.declared.due.Due.the-variants.{Nothing, Waits, Opens, Resets, Becomes, Loads, Answers}
-use Rattle.unit.specs.declared.due.Due.the-variants.{Writes, Reads}
+use Rattle.unit.specs.Promises.{TestsInOrder, CallsAccepted}
+use Rattle.unit.specs.Promises.{GivenBy, numberOf, Refuses, CallsSettled, CallsNumbered, CallsRefused}
 
-pub calls-settled : Calls-settled
+pub calls-settled : CallsSettled
 calls-settled map store image =
     record {
       start = λ who. settles-both (startOf map store image who);
@@ -81,7 +80,7 @@ module _ (s : State) (store : List ℕ) (o : Outcome Stepped) where
       rw (ne-eqb m 0 (λ z. omega arith))
       (record { returns = e; unanswered = refl; no-answer = refl; state-stays = refl; store-stays = refl })
 
-pub calls-accepted : Calls-accepted
+pub calls-accepted : CallsAccepted
 unfolding startOf powerOnOf stepOf
 calls-accepted map store image =
     record {
@@ -90,7 +89,7 @@ calls-accepted map store image =
       step = λ s heard e. accepting s store (frameOf (recordsOf map) store image s heard) _ e;
     }
 
-pub calls-numbered : Calls-numbered
+pub calls-numbered : CallsNumbered
 unfolding startNumber powerNumber stepNumber startOf powerOnOf stepOf powerOf quiet
 calls-numbered map store image =
     record {
@@ -125,7 +124,7 @@ module _ (map store : List ℕ) (kept : ℕ) (us : List Test) where
   unfolding checkNumber
   checks-passed e = joined-none (checkTests map store kept) us refl e
 
-pub tests-in-order : Tests-in-order
+pub tests-in-order : TestsInOrder
 unfolding startNumber powerNumber stepNumber firstFailing
 tests-in-order map store kept =
     record {
@@ -137,7 +136,7 @@ tests-in-order map store kept =
       step-then = λ s frame. checks-passed map store kept (stepsBehind map store s frame);
     }
 
-pub calls-refused : Calls-refused
+pub calls-refused : CallsRefused
 unfolding startOf powerOnOf stepOf
 calls-refused map store image n h =
     record {

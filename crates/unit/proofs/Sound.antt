@@ -16,9 +16,9 @@ use Rattle.banks.specs.Rules.{checkTests, checkNumber}
 use Rattle.banks.specs.Facts.{Stands}
 use Rattle.banks.proofs.Standing.{check-stands}
 use Rattle.hearing.specs.declared.rooms.Who.{Who}
-use Rattle.unit.specs.Rules.{addressHolds, stateHolds}
+use Rattle.rooms.specs.Rules.{addressHolds, stateHolds}
+use Rattle.rooms.specs.declared.state.State.{State}
 use Rattle.unit.specs.Step.{startNumber, powerNumber, stepNumber}
-use Rattle.unit.specs.declared.state.State.{State}
 use Rattle.unit.proofs.Numbers.{startsBehind, powersBehind, stepsBehind}
 use Rattle.unit.proofs.Keeping.{RulesHold, rules-hold, state-holds}
 

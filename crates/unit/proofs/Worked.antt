@@ -1,11 +1,11 @@
 -- The worked runs hold: each is computed.
 -- Assumes nothing.
 use mathlib.Core.Path.{refl}
-use Rattle.unit.specs.Worked.{Worked-hold}
+use Rattle.unit.specs.Worked.{WorkedHold}
 use Rattle.unit.proofs.Bench.{reading, checking, looking, meaning, storing, filling, keeping, rooms, acting}
 use Rattle.unit.proofs.Bench.{calling}
 
-pub worked-hold : Worked-hold
+pub worked-hold : WorkedHold
 unfolding reading checking looking meaning storing filling keeping rooms acting calling
 worked-hold = (
   record { starts = refl; writes = refl; leaves = refl },

@@ -6,10 +6,10 @@ use mathlib.Core.Path.{_≡_}
 use mathlib.Core.Bool.{Bool, true, false}
 use mathlib.Core.List.{List, [], _∷_, map}
 use lib.ListN.{length}
-use Rattle.unit.specs.State.{withWho, withWaiting, withDoor, withLatch, poweredOn}
+use Rattle.rooms.specs.State.{withWho, withWaiting, withDoor, withLatch, poweredOn}
+use Rattle.rooms.specs.declared.state.State.{State}
 use Rattle.unit.specs.Step.{startNumber, powerNumber, stepNumber}
 use Rattle.unit.specs.Bench.{benchMap, benchStore, benchImage, benchWho}
-use Rattle.unit.specs.declared.state.State.{State}
 
 -- a state, the store with it, a frame, and the number of a step; a power-on has the same, but for 1
 pub record StateCase : Type 0 where

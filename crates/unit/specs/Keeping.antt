@@ -18,13 +18,14 @@ use Rattle.banks.specs.declared.record.Record.{Record}
 use Rattle.memory.specs.Promises.{ChangesOnly}
 use Rattle.hearing.specs.declared.rooms.Who.{Who}
 use Rattle.hearing.specs.declared.rooms.Heard.{Heard}
-use Rattle.unit.specs.Due.{dueOf}
+use Rattle.rooms.specs.Due.{dueOf}
+use Rattle.rooms.specs.Promises.{StatePowered}
+use Rattle.rooms.specs.declared.state.State.{State}
+use Rattle.rooms.specs.declared.reply.Stepped.{Stepped}
+use Rattle.rooms.specs.declared.due.Due.the-variants.{Resets}
 use Rattle.unit.specs.Step.{startNumber, startOf, powerNumber, powerOnOf, powerOf, stepNumber, stepOf}
 use Rattle.unit.specs.Run.{Input, power-on, hears, inputOf}
 use Rattle.unit.specs.Promises.{numberOf}
-use Rattle.unit.specs.declared.state.State.{State}
-use Rattle.unit.specs.declared.state.Stepped.{Stepped}
-use Rattle.unit.specs.declared.due.Due.the-variants.{Resets}
 
 -- ---- the store. `ChangesOnly` is memory's: every value stays but those named, and so do each value that is not
 -- writable, each byte under no record, and how long the store is
@@ -36,8 +37,8 @@ pub record StoreKept (map store image : List ℕ) : Type 0 where
   pub step : (s : State) (heard : Heard)
       → ChangesOnly map store (stepOf map store image s heard .store) (λ r. writable r ≡ true)
 
-abbrev pub Store-kept : Type 0
-Store-kept = (map store image : List ℕ) → StoreKept map store image
+abbrev pub CallsKeepStore : Type 0
+CallsKeepStore = (map store image : List ℕ) → StoreKept map store image
 
 -- one writable value, and nothing but it, may have changed
 pub record OneValue (map store after : List ℕ) : Type 0 where
@@ -47,23 +48,12 @@ pub record OneValue (map store after : List ℕ) : Type 0 where
   pub only : ChangesOnly map store after (λ r. r ≡ value)
 
 -- in a frame step that is no reset at most one value's bytes change
-abbrev pub One-value-changes : Type 0
-One-value-changes = (map store image : List ℕ) (s : State) (heard : Heard)
+abbrev pub OneValueChanges : Type 0
+OneValueChanges = (map store image : List ℕ) (s : State) (heard : Heard)
     → ((dtr0 : ℕ) → dueOf (recordsOf map) s heard ≡ Resets dtr0 → ⊥)
     → (stepOf map store image s heard .store ≡ store) ⊎ OneValue map store (stepOf map store image s heard .store)
 
 -- ---- power-on
-
--- DTRs 0; nothing waiting, enabled, staged or latched; address and groups as given
-pub record StatePowered (who : Who) (s : State) : Type 0 where
-  pub who-is : s .who ≡ who
-  pub dtr0 : s .registers .dtr0 ≡ 0
-  pub dtr1 : s .registers .dtr1 ≡ 0
-  pub dtr2 : s .registers .dtr2 ≡ 0
-  pub none-waiting : s .waiting .held ≡ false
-  pub not-enabled : s .door .enabled ≡ false
-  pub none-staged : s .door .staged .count ≡ 0
-  pub none-latched : s .latch .held ≡ false
 
 pub record StorePowered (map store image after : List ℕ) : Type 0 where
   -- lock bytes 0xFF: of each such record, and of each mapped bank from 1 on
@@ -90,8 +80,8 @@ pub record Powered (map store image : List ℕ) : Type 0 where
   pub power-on : (s : State) → powerNumber map store (length image) s ≡ 0
       → PowersOn map store image (s .who) (powerOnOf map store image s)
 
-abbrev pub Calls-power-on : Type 0
-Calls-power-on = (map store image : List ℕ) → Powered map store image
+abbrev pub CallsPowerOn : Type 0
+CallsPowerOn = (map store image : List ℕ) → Powered map store image
 
 -- ---- the rules
 
@@ -110,8 +100,8 @@ pub record AcceptedAgain (map store image : List ℕ) : Type 0 where
   pub next : (s : State) (frame : ℕ) → powerNumber map store (length image) s ≡ 0 → frame < 16777216
       → stepNumber map store (length image) s frame ≡ 0
 
-abbrev pub Accepted-again : Type 0
-Accepted-again = (map store image : List ℕ) → AcceptedAgain map store image
+abbrev pub CallsAcceptedAgain : Type 0
+CallsAcceptedAgain = (map store image : List ℕ) → AcceptedAgain map store image
 
 -- each of a list of inputs is accepted, one after the other
 abbrev pub AllAccepted : List ℕ → List ℕ → List ℕ → State → List Input → Type 0
@@ -126,7 +116,7 @@ isInput power-on = true
 isInput (hears heard) = ltb (heard .frame) 16777216
 
 -- after an accepted start no power-on and no frame is ever refused: who runs many frames checks once
-abbrev pub Run-accepted : Type 0
-Run-accepted = (map store image : List ℕ) (who : Who) → startNumber map store (length image) who ≡ 0
+abbrev pub RunAccepted : Type 0
+RunAccepted = (map store image : List ℕ) (who : Who) → startNumber map store (length image) who ≡ 0
     → (xs : List Input) → every isInput xs ≡ true
     → AllAccepted map image (startOf map store image who .store) (startOf map store image who .answer .state) xs

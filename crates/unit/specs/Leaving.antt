@@ -16,16 +16,17 @@ use Rattle.hearing.specs.Meaning.{meaningOf, closes}
 use Rattle.hearing.specs.Pairs.{noneWaits, waitsFor}
 use Rattle.hearing.specs.declared.rooms.Heard.{Heard}
 use Rattle.hearing.specs.declared.meaning.Meaning.the-variants.{Foreign}
-use Rattle.unit.specs.State.{withWaiting, withDoor, shutDoor, openDoor}
-use Rattle.unit.specs.Rules.{stateHolds}
-use Rattle.unit.specs.Due.{dueOf}
-use Rattle.unit.specs.Step.{quiet, frameOf, stepOf}
+use Rattle.rooms.specs.State.{withWaiting, withDoor, shutDoor, openDoor}
+use Rattle.rooms.specs.Rules.{stateHolds}
+use Rattle.rooms.specs.Due.{dueOf}
+use Rattle.rooms.specs.Reply.{quiet}
+use Rattle.rooms.specs.declared.state.State.{State}
+use Rattle.rooms.specs.declared.reply.Stepped.{Stepped}
+use Rattle.rooms.specs.declared.due.Due.{Due}
+use Rattle.rooms.specs.declared.due.Due.the-variants.{Nothing, Waits, Opens, Resets, Becomes, Loads, Answers}
+use Rattle.rooms.specs.declared.due.Due.the-variants.{Writes, Reads}
+use Rattle.unit.specs.Step.{frameOf, stepOf}
 use Rattle.unit.specs.Promises.{numberOf}
-use Rattle.unit.specs.declared.state.State.{State}
-use Rattle.unit.specs.declared.state.Stepped.{Stepped}
-use Rattle.unit.specs.declared.due.Due.{Due}
-use Rattle.unit.specs.declared.due.Due.the-variants.{Nothing, Waits, Opens, Resets, Becomes, Loads, Answers}
-use Rattle.unit.specs.declared.due.Due.the-variants.{Writes, Reads}
 
 -- a foreign frame changes nothing but the waiting frame, and nothing at all where none waits
 pub record PassesBy (rs : List Record) (store image : List ℕ) (s : State) (heard : Heard) : Type 0 where
@@ -33,8 +34,8 @@ pub record PassesBy (rs : List Record) (store image : List ℕ) (s : State) (hea
   pub changes-nothing : stateHolds rs store s ≡ true → s .waiting .held ≡ false
       → frameOf rs store image s heard ≡ leaves (quiet s) store
 
-abbrev pub Foreign-passes-by : Type 0
-Foreign-passes-by = (rs : List Record) (store image : List ℕ) (s : State) (heard : Heard)
+abbrev pub ForeignPassesBy : Type 0
+ForeignPassesBy = (rs : List Record) (store image : List ℕ) (s : State) (heard : Heard)
     → meaningOf (s .who) (heard .frame) ≡ Foreign → PassesBy rs store image s heard
 
 -- what is read is an event, or a reserved frame: no command
@@ -67,8 +68,8 @@ pub record OnlyWaits (rs : List Record) (s : State) (store : List ℕ) (again : 
   pub waits : after ≡ leaves (quiet (withWaiting (withDoor s shutDoor) (waitsFor again))) store
 
 -- an event or a reserved frame between two halves breaks the pair, whatever the clocks
-abbrev pub Event-breaks-pair : Type 0
-Event-breaks-pair = (map store image : List ℕ) (s : State) (first between again : Heard)
+abbrev pub EventBreaksPair : Type 0
+EventBreaksPair = (map store image : List ℕ) (s : State) (first between again : Heard)
     → Interrupted map store image s first between again
     → let two : Outcome Stepped = next map image (stepOf map store image s first) between in
     OnlyWaits (recordsOf map) s store again two (next map image two again)
@@ -142,7 +143,7 @@ Leaves s store heard closing o (Writes bank location byte replying) =
 Leaves s store heard closing o (Reads bank location) =
     WhoStays s o × Dtr0Rises location s o × NoneWaits o × DoorShut o × StoreStays store o
 
-abbrev pub Frames-leave : Type 0
-Frames-leave = (rs : List Record) (store image : List ℕ) (s : State) (heard : Heard) (due : Due)
+abbrev pub FramesLeave : Type 0
+FramesLeave = (rs : List Record) (store image : List ℕ) (s : State) (heard : Heard) (due : Due)
     → dueOf rs s heard ≡ due
     → Leaves s store heard (closes (meaningOf (s .who) (heard .frame))) (frameOf rs store image s heard) due

@@ -1,7 +1,3 @@
-pub mod State
-pub mod Rules
-pub mod Due
-pub mod Codes
 pub mod Step
 pub mod Run
 pub mod Promises

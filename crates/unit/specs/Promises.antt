@@ -17,12 +17,12 @@ use Rattle.banks.specs.Map.{recordsOf}
 use Rattle.banks.specs.Rules.{checkNumber}
 use Rattle.hearing.specs.declared.rooms.Who.{Who}
 use Rattle.hearing.specs.declared.rooms.Heard.{Heard}
-use Rattle.unit.specs.State.{zeroState}
-use Rattle.unit.specs.Rules.{addressHolds, stateHolds}
+use Rattle.rooms.specs.State.{zeroState}
+use Rattle.rooms.specs.Rules.{addressHolds, stateHolds}
+use Rattle.rooms.specs.declared.state.State.{State}
+use Rattle.rooms.specs.declared.reply.Stepped.{Stepped}
 use Rattle.unit.specs.Step.{startTests, startNumber, startOf, powerTests, powerNumber, powerOnOf, powerOf}
 use Rattle.unit.specs.Step.{stepTests, stepNumber, stepOf, frameOf}
-use Rattle.unit.specs.declared.state.State.{State}
-use Rattle.unit.specs.declared.state.Stepped.{Stepped}
 
 -- two results that meet one promise have the same answer and leave the same store
 abbrev pub SettlesBoth : Outcome Stepped → Type 0
@@ -101,17 +101,17 @@ pub record Accepted (map store image : List ℕ) : Type 0 where
   pub step : (s : State) (heard : Heard) → stepNumber map store (length image) s (heard .frame) ≡ 0
       → stepOf map store image s heard ≡ frameOf (recordsOf map) store image s heard
 
-abbrev pub Calls-settled : Type 0
-Calls-settled = (map store image : List ℕ) → Settled map store image
+abbrev pub CallsSettled : Type 0
+CallsSettled = (map store image : List ℕ) → Settled map store image
 
-abbrev pub Calls-numbered : Type 0
-Calls-numbered = (map store image : List ℕ) → Numbered map store image
+abbrev pub CallsNumbered : Type 0
+CallsNumbered = (map store image : List ℕ) → Numbered map store image
 
-abbrev pub Tests-in-order : Type 0
-Tests-in-order = (map store : List ℕ) (kept : ℕ) → InOrder map store kept
+abbrev pub TestsInOrder : Type 0
+TestsInOrder = (map store : List ℕ) (kept : ℕ) → InOrder map store kept
 
-abbrev pub Calls-refused : Type 0
-Calls-refused = (map store image : List ℕ) (n : ℕ) → 0 < n → Refused map store image n
+abbrev pub CallsRefused : Type 0
+CallsRefused = (map store image : List ℕ) (n : ℕ) → 0 < n → Refused map store image n
 
-abbrev pub Calls-accepted : Type 0
-Calls-accepted = (map store image : List ℕ) → Accepted map store image
+abbrev pub CallsAccepted : Type 0
+CallsAccepted = (map store image : List ℕ) → Accepted map store image

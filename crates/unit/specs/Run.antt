@@ -7,10 +7,10 @@ use Rattle.laws.specs.Choice.{if_then_else_}
 use Rattle.laws.specs.Outcome.{Outcome}
 use Rattle.hearing.specs.declared.rooms.Who.{Who}
 use Rattle.hearing.specs.declared.rooms.Heard.{Heard}
+use Rattle.rooms.specs.declared.state.State.{State}
+use Rattle.rooms.specs.declared.reply.Reply.{Reply}
+use Rattle.rooms.specs.declared.reply.Stepped.{Stepped}
 use Rattle.unit.specs.Step.{stepOf, powerOnOf, startOf}
-use Rattle.unit.specs.declared.state.State.{State}
-use Rattle.unit.specs.declared.state.Reply.{Reply}
-use Rattle.unit.specs.declared.state.Stepped.{Stepped}
 
 -- an input of a history: a power-on, or a frame with its clock
 pub data Input : Type 0 where

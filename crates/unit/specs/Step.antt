@@ -11,42 +11,27 @@ use Rattle.laws.specs.Outcome.{Outcome, leaves}
 use Rattle.banks.specs.Map.{recordsOf}
 use Rattle.banks.specs.Rules.{checkTests}
 use Rattle.banks.specs.declared.record.Record.{Record}
-use Rattle.hearing.specs.Meaning.{meaningOf, closes}
-use Rattle.hearing.specs.Pairs.{noneWaits, waitsFor}
-use Rattle.hearing.specs.declared.rooms.Who.{Who}
-use Rattle.hearing.specs.declared.rooms.Heard.{Heard}
 use Rattle.memory.specs.Staged.{writeOf}
 use Rattle.memory.specs.Latched.{readOf}
 use Rattle.memory.specs.Filled.{filledOf}
 use Rattle.memory.specs.declared.staged.Wrote.{Wrote}
 use Rattle.memory.specs.declared.latched.Shown.{Shown}
 use Rattle.memory.specs.declared.filled.Filling.the-variants.{PowerOn, Reset}
-use Rattle.unit.specs.State.{withWho, withRegisters, withWaiting, withDoor, withLatch, shutDoor, openDoor}
-use Rattle.unit.specs.State.{poweredOn, zeroState}
-use Rattle.unit.specs.Rules.{addressHolds, stateHolds}
-use Rattle.unit.specs.Due.{withDtr, dueOf}
-use Rattle.unit.specs.declared.state.State.{State}
-use Rattle.unit.specs.declared.state.Reply.{Reply}
-use Rattle.unit.specs.declared.state.Stepped.{Stepped}
-use Rattle.unit.specs.declared.due.Due.{Due}
-use Rattle.unit.specs.declared.due.Due.the-variants.{Nothing, Waits, Opens, Resets, Becomes, Loads, Answers}
-use Rattle.unit.specs.declared.due.Due.the-variants.{Writes, Reads}
-
--- 0: accepted
-abbrev pub accepted : Bool → ℕ → Reply
-accepted answered answer = record { number = 0; answered = answered; answer = if answered then answer else 0 }
-
--- accepted, and no answer
-unfoldable pub quiet : State → Stepped
-quiet s = record { reply = accepted false 0; state = s }
-
--- accepted; answered or not
-unfoldable pub answering : State → Bool → ℕ → Stepped
-answering s answered answer = record { reply = accepted answered answer; state = s }
-
--- refused: the number, and the state that was handed in
-unfoldable pub refusing : State → ℕ → Stepped
-refusing s n = record { reply = record { number = n; answered = false; answer = 0 }; state = s }
+use Rattle.hearing.specs.Meaning.{meaningOf, closes}
+use Rattle.hearing.specs.Pairs.{noneWaits, waitsFor}
+use Rattle.hearing.specs.declared.rooms.Who.{Who}
+use Rattle.hearing.specs.declared.rooms.Heard.{Heard}
+use Rattle.rooms.specs.State.{withWho, withRegisters, withWaiting, withDoor, withLatch, shutDoor, openDoor}
+use Rattle.rooms.specs.Reply.{quiet, answering, refusing}
+use Rattle.rooms.specs.State.{poweredOn, zeroState}
+use Rattle.rooms.specs.Rules.{addressHolds, stateHolds}
+use Rattle.rooms.specs.Due.{withDtr, dueOf}
+use Rattle.rooms.specs.declared.state.State.{State}
+use Rattle.rooms.specs.declared.reply.Reply.{Reply}
+use Rattle.rooms.specs.declared.reply.Stepped.{Stepped}
+use Rattle.rooms.specs.declared.due.Due.{Due}
+use Rattle.rooms.specs.declared.due.Due.the-variants.{Nothing, Waits, Opens, Resets, Becomes, Loads, Answers}
+use Rattle.rooms.specs.declared.due.Due.the-variants.{Writes, Reads}
 
 -- any frame clears the waiting one; what closes write-enable drops staging
 unfoldable pub hearing : State → Bool → State

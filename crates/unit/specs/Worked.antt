@@ -201,5 +201,5 @@ worked =
     ∷ unfinished ∷ dropping ∷ anew ∷ closing ∷ keeping ∷ third ∷ fourth ∷ eventBetween ∷ reservedBetween ∷ others
     ∷ resetting ∷ resettingAll ∷ resettingLocked ∷ powering ∷ addressing ∷ grouping ∷ loading ∷ []
 
-abbrev pub Worked-hold : Type 0
-Worked-hold = Hold worked
+abbrev pub WorkedHold : Type 0
+WorkedHold = Hold worked

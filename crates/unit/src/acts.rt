@@ -8,22 +8,22 @@ ghost use Rattle.banks.specs.Rules.{placed};
 ghost use Rattle.memory.specs.Staged.{writeOf};
 ghost use Rattle.memory.specs.Latched.{readOf};
 ghost use Rattle.unit.specs.Step.{hearing, raised, written, readBy, done};
-use crate::due::Due;
-use crate::due::with_dtr;
-use crate::state::Door;
-use crate::state::State;
-use crate::state::Stepped;
-use crate::state::answering;
-use crate::state::open_door;
-use crate::state::quiet;
-use crate::state::shut_door;
-use crate::state::with_door;
-use crate::state::with_latch;
-use crate::state::with_registers;
-use crate::state::with_waiting;
-use crate::state::with_who;
 use hearing::Heard;
 use memory::Filling;
+use rooms::Door;
+use rooms::Due;
+use rooms::State;
+use rooms::Stepped;
+use rooms::answering;
+use rooms::open_door;
+use rooms::quiet;
+use rooms::shut_door;
+use rooms::with_door;
+use rooms::with_dtr;
+use rooms::with_latch;
+use rooms::with_registers;
+use rooms::with_waiting;
+use rooms::with_who;
 
 // Any frame clears the waiting one; what closes write-enable drops staging.
 pub fn hear(state: State, closing: bool) -> State

@@ -9,18 +9,18 @@ ghost use Rattle.unit.specs.Step.{frameOf, powerOf, stepNumber, powerNum
 ghost use Rattle.unit.specs.Step.{stepOf, powerOnOf, startOf};
 use crate::acts::act;
 use crate::acts::hear;
-use crate::due::due_by;
-use crate::rules::address_holds;
-use crate::rules::state_holds;
-use crate::state::State;
-use crate::state::Stepped;
-use crate::state::powered_on;
-use crate::state::quiet;
-use crate::state::refusing;
 use frames::Reading;
 use hearing::Heard;
 use hearing::Who;
 use memory::Filling;
+use rooms::State;
+use rooms::Stepped;
+use rooms::address_holds;
+use rooms::due_by;
+use rooms::powered_on;
+use rooms::quiet;
+use rooms::refusing;
+use rooms::state_holds;
 
 // Internal: a frame step on a map, store and state that keep the rules. Whoever runs many frames checks once, and then
 // calls this. A reserved frame goes straight to clearing the waiting one.

@@ -1,5 +1,7 @@
 -- `frames::writer::address_byte` meets its contract.
 -- Assumes nothing.
+use native.Mathlib.Omega.{arith}
+use lib.Dec.{lit<}
 use borrow.Author.Needs.{needs}
 use Rattle.frames.proofs.writer.address_byte.Statement.{statement}
 use Rattle.frames.proofs.writer.address_byte.Tie as tie
@@ -18,7 +20,7 @@ address-byte-spec =
     (λ c. search needs)
     (λ c. search needs)
     (λ c. search needs)
-    (λ c. search (needs, c .before .address .given .1))
-    (λ c. search (needs, c .before .address2 .given .1))
-    (λ c. search needs)
-    (λ c. search needs))
+    (λ c. (rw (c .before .address .given .1), omega arith))
+    (λ c. (rw (c .before .address2 .given .1), omega arith))
+    (λ c. (rw (c .enum-told .given .1), lit< tt))
+    (λ c. (rw (c .enum-told2 .given .1), lit< tt)))

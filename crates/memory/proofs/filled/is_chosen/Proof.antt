@@ -16,4 +16,9 @@ is-chosen-spec =
     (λ c κs. search needs)
     (λ c κs. search needs)
     (λ c. rw (c .before .enum-told .given .1))
-    (λ c. rw (c .before .before .before .before .filling .given .1) (cc)))
+    (λ c. rw (
+      c .before .before .before .before .filling .given .1,
+      ← c .before .before .is-writable .ensures,
+      ← c .before .selects-bank .ensures,
+      ← c .lock-byte .ensures,
+    )))

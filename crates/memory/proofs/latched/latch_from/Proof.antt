@@ -12,4 +12,4 @@ latch-from-spec = tie.close (tie.spec
     (λ c κs. search needs)
     (λ c. rw (lt-leb _ _ (c .before .if1 .taken)) (c .none-latched .ensures))
     (λ c κs. search needs)
-    (λ c. rw (le-leb _ _ (c .before .if1 .left)) (cc)))
+    (λ c. rw (le-leb _ _ (c .before .if1 .left), ← c .padded-part .ensures)))

@@ -16,5 +16,12 @@ staged-in-spec =
     (λ c. search needs)
     (λ c κs. search needs)
     (λ c. search needs)
-    (λ c. rw (c .before .before .before .before .before .before .before .before .before .found .given .1) (cc))
+    (λ c.
+    let told = c .before .before .before .before .before .before in
+    rw (
+      told .before .before .before .found .given .1,
+      ← told .before .is-writable .ensures,
+      ← told .is-unlocked .ensures,
+      ← c .before .before .before .is-zero-from .ensures,
+    ))
     (λ c. rw (c .enum-told .given .1)))

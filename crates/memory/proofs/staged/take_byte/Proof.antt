@@ -10,8 +10,10 @@ use Rattle.memory.proofs.staged.take_byte.Tie as tie
 returns : tie.Need-returns
 unfolding takeByte
 returns c =
-    rw (eq-eqb _ _ (c .before .before .before .before .before .before .before .if1 .taken))
-    (record { answer = cc; store = cc })
+    let put = c .before .before .before .before in
+    let branch = put .before .before .before in
+    rw (eq-eqb _ _ (branch .if1 .taken), ← branch .before .before .bytes-with .ensures, ← c .before .none-staged .ensures)
+    (record { answer = c .wrote-as .ensures; store = put .put-value .ensures })
 
 pub take-byte-spec : {M : Type 1} → statement M
 unfolding takeByte
@@ -28,4 +30,5 @@ take-byte-spec =
     returns
     (λ c. search needs)
     (λ c κs. search needs)
-    (λ c. rw (ne-eqb _ _ (c .before .if1 .left)) (record { answer = cc; store = refl })))
+    (λ c. rw (ne-eqb _ _ (c .before .if1 .left), ← c .before .before .before .bytes-with .ensures)
+    (record { answer = c .wrote-as2 .ensures; store = refl })))

@@ -24,7 +24,7 @@ returns-2 : tie.Need-returns-2
 unfolding writeOf writeAt
 returns-2 c =
     rw (sym (c .before .before .before .before .lookup .ensures) ∙ c .before .before .enum-told .given .1)
-    (record { answer = cc; store = refl })
+    (record { answer = rw (← c .before .none-staged .ensures) (c .wrote-as .ensures); store = refl })
 
 pub write-byte-spec : {M : Type 1} → statement M
 write-byte-spec =

@@ -17,7 +17,7 @@ returns-2 : tie.Need-returns-2
 unfolding writeFound
 returns-2 c =
     rw (sym (c .before .before .before .is-taken .ensures) ∙ c .before .before .if1 .left)
-    (record { answer = cc; store = refl })
+    (record { answer = rw (← c .before .none-staged .ensures) (c .wrote-as .ensures); store = refl })
 
 pub write-found-spec : {M : Type 1} → statement M
 write-found-spec =

@@ -1,8 +1,8 @@
 -- `mirtofalko::state_bytes::put_four` meets its contract.
 -- Assumes nothing.
+use Rattle.laws.specs.Bits.{bits}
 use Rattle.mirtofalko.proofs.Spelled.{put-from}
 use Rattle.mirtofalko.specs.StateBytes.{bytesOf}
-use Rattle.laws.specs.Bits.{bits}
 use native.Mathlib.Nat.{add-zero, div-one}
 use mathlib.Core.Path.{sym, _∙_}
 use borrow.Author.Needs.{needs}

@@ -28,7 +28,7 @@ large-buffer-requires-2 c κs = tt
 
 -- src/input.rt:73:5
 loop-holds : tie.Need-loop-holds Inv-loop μ-loop
-loop-holds c = (c .before .large-buffer .ensures , c .large-buffer2 .ensures , omega arith, refl)
+loop-holds c = (c .before .large-buffer .ensures, c .large-buffer2 .ensures, omega arith, refl)
 
 -- src/input.rt:74:52
 slice-aggregate-trace-some : tie.Need-slice-aggregate-trace-some Inv-loop μ-loop
@@ -52,9 +52,12 @@ loop-less c = omega (arith, c .before .before .before .before .before .before .b
 
 -- src/input.rt:73:5
 loop-again : tie.Need-loop-again Inv-loop μ-loop
-loop-again c = 
-    (c .before .before .before .before .before .before .before .before .before .before .loop .inv .0 ∙ sym (c .before .before .before .before .trace-some .kept .1 .1 .1 .1 .0) , c .before .before .before .before .before .before .before .before .before .before .loop .inv .1 ∙ sym (c .before .before .before .before .trace-some .kept .1 .1 .1 .1 .1 .0) ,
-    c .before .before .before .before .trace-some .ensures , c .before .before .before .before .trace-some .kept .1 .0 ∙ c .before .before .before .before .before .before .before .before .before .before .loop .inv .3)
+loop-again c = (
+  c .before .before .before .before .before .before .before .before .before .before .loop .inv .0 ∙ sym (c .before .before .before .before .trace-some .kept .1 .1 .1 .1 .0),
+  c .before .before .before .before .before .before .before .before .before .before .loop .inv .1 ∙ sym (c .before .before .before .before .trace-some .kept .1 .1 .1 .1 .1 .0),
+  c .before .before .before .before .trace-some .ensures,
+  c .before .before .before .before .trace-some .kept .1 .0 ∙ c .before .before .before .before .before .before .before .before .before .before .loop .inv .3,
+)
 
 -- src/input.rt:63:1
 same-length : tie.Need-same-length Inv-loop μ-loop

@@ -11,7 +11,7 @@ use Rattle.tracing.proofs.records.step_entry.Tie as tie
 returns : tie.Need-returns
 returns c =
     turn-refused _ _ _ _ _ _ (c .before .before .before .before .before .before .before .before .pre .0)
-    (rw (c .before .before .before .entry .given .1)) (c .before .if1 .taken) _ (c .refuse .ensures)
+    (rw (c .before .before .before .entry .given .1)) (c .before .if1 .taken) _ (c .refusing .ensures)
 
 frame-step-requires : tie.Need-frame-step-requires
 frame-step-requires c κs =
@@ -24,7 +24,7 @@ frame-step-requires c κs =
 returns-2 : tie.Need-returns-2
 returns-2 c =
     turn-refused _ _ _ _ _ _ (c .before .before .before .before .before .before .before .pre .0)
-    (rw (c .before .before .enum-told .given .1)) (c .before .if2 .taken) _ (c .refuse2 .ensures)
+    (rw (c .before .before .enum-told .given .1)) (c .before .if2 .taken) _ (c .refusing2 .ensures)
 
 power-step-requires : tie.Need-power-step-requires
 power-step-requires c κs =
@@ -69,4 +69,4 @@ step-entry-spec =
     returns-3
     (λ c. search needs)
     returns-4
-    (λ c. rw (c .before .enum-told2 .given .1) (record { answer = c .refuse3 .ensures; store = refl })))
+    (λ c. rw (c .before .enum-told2 .given .1) (record { answer = c .refusing3 .ensures; store = refl })))

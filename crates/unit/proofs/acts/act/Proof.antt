@@ -42,13 +42,25 @@ act-spec =
     (λ c κs. search needs)
     (λ c. search needs)
     (λ c κs. search needs)
-    (λ c. rw (c .before .enum-told .given .1) (record { answer = cc; store = refl }))
-    (λ c. rw (c .before .before .before .enum-told2 .given .1) (record { answer = cc; store = refl }))
-    (λ c. rw (c .before .before .before .enum-told3 .given .1) (record { answer = cc; store = refl }))
+    (λ c. rw (c .before .enum-told .given .1) (record { answer = c .quiet .ensures; store = refl }))
+    (λ c. rw (
+      c .before .before .before .enum-told2 .given .1,
+      ← c .before .before .waits-for .ensures,
+      ← c .before .with-waiting .ensures,
+    )
+    (record { answer = c .quiet2 .ensures; store = refl }))
+    (λ c. rw (
+      c .before .before .before .enum-told3 .given .1,
+      ← c .before .before .open-door .ensures,
+      ← c .before .with-door .ensures,
+    )
+    (record { answer = c .quiet3 .ensures; store = refl }))
     (λ c. search needs)
     returns-4
-    (λ c. rw (c .before .before .before .due2 .given .1) (record { answer = cc; store = refl }))
-    (λ c. rw (c .before .before .before .due3 .given .1) (record { answer = cc; store = refl }))
+    (λ c. rw (c .before .before .before .due2 .given .1, ← c .before .with-who .ensures)
+    (record { answer = c .quiet5 .ensures; store = refl }))
+    (λ c. rw (c .before .before .before .due3 .given .1, ← c .before .with-registers .ensures)
+    (record { answer = c .quiet6 .ensures; store = refl }))
     (λ c. rw (c .before .before .due4 .given .1) (record { answer = c .answering .ensures; store = refl }))
     (λ c. search needs)
     (λ c. rw (c .before .before .before .before .before .due5 .given .1) (c .before .before .write-at .ensures))

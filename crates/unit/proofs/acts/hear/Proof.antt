@@ -3,10 +3,10 @@
 use mathlib.Core.Path.{_≡_, refl}
 use borrow.Author.Needs.{needs}
 use Rattle.hearing.specs.declared.rooms.Waiting.{Waiting}
-use Rattle.unit.specs.State.{withDoor, withWaiting}
+use Rattle.rooms.specs.State.{withDoor, withWaiting}
+use Rattle.rooms.specs.declared.state.Door.{Door}
+use Rattle.rooms.specs.declared.state.State.{State}
 use Rattle.unit.specs.Step.{hearing}
-use Rattle.unit.specs.declared.state.Door.{Door}
-use Rattle.unit.specs.declared.state.State.{State}
 use Rattle.unit.proofs.acts.hear.Statement.{statement}
 use Rattle.unit.proofs.acts.hear.Tie as tie
 
@@ -25,5 +25,12 @@ hear-spec =
     (λ c κs. search needs)
     (λ c κs. search needs)
     (λ c κs. search needs)
-    (λ c. rw (c .before .before .if1 .taken, exchange) (cc))
-    (λ c. rw (c .if1 .left) (cc)))
+    (λ c. rw (
+      c .before .before .if1 .taken,
+      exchange,
+      ← c .before .before .before .before .none-waits .ensures,
+      ← c .before .before .before .with-waiting .ensures,
+      ← c .before .shut-door .ensures,
+    )
+    (c .with-door .ensures))
+    (λ c. rw (c .if1 .left, ← c .before .before .none-waits .ensures) (c .before .with-waiting .ensures)))

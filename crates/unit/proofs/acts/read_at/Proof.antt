@@ -14,4 +14,9 @@ read-at-spec =
     (λ c κs. search needs)
     (λ c κs. search needs)
     (λ c κs. search needs)
-    (λ c. rw (← c .before .before .before .before .read-byte .ensures) (cc)))
+    (λ c. rw (
+      ← c .before .before .before .before .read-byte .ensures,
+      ← c .before .before .raise .ensures,
+      ← c .before .with-latch .ensures,
+    )
+    (c .answering .ensures)))

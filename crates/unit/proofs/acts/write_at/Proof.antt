@@ -9,7 +9,16 @@ returns : tie.Need-returns
 unfolding written
 returns c =
     let wrote = c .before .before .before .before .before .before .before .write-byte .ensures in
-    record { answer = rw (← wrote .answer) (cc); store = wrote .store }
+    record {
+      answer =
+          rw (
+            ← wrote .answer,
+            ← c .before .before .before .raise .ensures,
+            ← c .before .before .with-door .ensures,
+          )
+          (c .answering .ensures);
+      store = wrote .store;
+    }
 
 pub write-at-spec : {M : Type 1} → statement M
 write-at-spec =

@@ -1,10 +1,11 @@
 -- `unit::calls::frame_step` meets its contract.
 -- Assumes nothing.
-use mathlib.Core.Path.{refl}
+use mathlib.Core.Path.{refl, ap, _∙_}
 use borrow.Author.Needs.{needs}
 use Rattle.banks.proofs.Members.{placed-ordered}
 use Rattle.hearing.specs.Meaning.{meaningOf}
-use Rattle.unit.specs.Due.{dueBy, dueOf}
+use Rattle.rooms.specs.Reply.{quiet}
+use Rattle.rooms.specs.Due.{dueBy, dueOf}
 use Rattle.unit.specs.Step.{frameOf, done}
 use Rattle.unit.proofs.calls.frame_step.Statement.{statement}
 use Rattle.unit.proofs.calls.frame_step.Tie as tie
@@ -13,7 +14,7 @@ returns : tie.Need-returns
 unfolding frameOf dueOf meaningOf dueBy done
 returns c =
     rw (← c .before .before .before .before .read .ensures, c .before .before .enum-told .given .1)
-    (record { answer = cc; store = refl })
+    (record { answer = c .quiet .ensures ∙ ap quiet (c .before .hear .ensures); store = refl })
 
 returns-2 : tie.Need-returns-2
 unfolding frameOf dueOf meaningOf

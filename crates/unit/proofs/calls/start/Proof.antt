@@ -12,7 +12,7 @@ returns : tie.Need-returns
 unfolding startOf
 returns c =
     rw (← c .before .before .before .start-number .ensures, ne-eqb _ _ (c .before .before .if1 .taken))
-    (record { answer = cc; store = refl })
+    (record { answer = rw (← c .before .powered-on .ensures) (c .refusing .ensures); store = refl })
 
 power-step-requires : tie.Need-power-step-requires
 power-step-requires c κs =

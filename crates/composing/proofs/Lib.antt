@@ -1,0 +1,4 @@
+pub mod Composed
+pub mod Exactly
+pub mod Bench
+pub mod Settled

@@ -1,0 +1,4 @@
+pub mod Compose
+pub mod Promises
+pub mod Refusals
+pub mod Bench

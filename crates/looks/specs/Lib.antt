@@ -1,0 +1,3 @@
+pub mod Look
+pub mod Promises
+pub mod Cases

@@ -1,0 +1,71 @@
+// The look calls: the stored bytes of a value that begins at a given bank and location. They have no image: the store
+// stands for it.
+ghost use mathlib.Core.Path.{_≡_};
+ghost use Rattle.banks.specs.Lookup.{ifFirst};
+ghost use Rattle.looks.specs.Look.{lookNumber, refusedLook, placeOf, lookOf, lookBytes};
+use banks::Found;
+use banks::check_number;
+use banks::lookup;
+
+// The number of a look, and the place of the value; a refusal has no place.
+pub struct Looked {
+    pub number: u8,
+    pub width: u8,
+    pub offset: u16,
+}
+
+fn refused(number: u8) -> Looked
+    ensures { λ r. ⌜ r ≡ refusedLook number ⌝ }
+{
+    Looked {
+        number: number,
+        width: 0,
+        offset: 0,
+    }
+}
+
+// The place of what holds a location, where it begins there.
+fn place_of(found: Found, location: u8) -> Looked
+    ensures { λ r. ⌜ r ≡ placeOf (ifFirst location found) ⌝ }
+{
+    if let Found::At(r) = found {
+        if r.first == location {
+            return Looked {
+                number: 0,
+                width: r.width,
+                offset: r.offset,
+            };
+        }
+    }
+    refused(14)
+}
+
+// Number, width and offset of the value that begins at the bank and location.
+pub fn look_at(map: &[u8], store: &[u8], bank: u8, location: u8) -> Looked
+    ensures { λ r. ⌜ r ≡ lookOf (now (map .entry)) (now (store .entry)) bank location ⌝ }
+{
+    let number = check_number(map, store, store.len());
+    if number != 0 {
+        return refused(number);
+    }
+    let found = lookup(map, bank, location);
+    place_of(found, location)
+}
+
+// The number of a look: 7 to 11, then 14, or 0.
+pub fn look_number(map: &[u8], store: &[u8], bank: u8, location: u8) -> u8
+    ensures { λ r. ⌜ r ≡ lookNumber (now (map .entry)) (now (store .entry)) bank location ⌝ }
+{
+    let looked = look_at(map, store, bank, location);
+    looked.number
+}
+
+// The stored bytes themselves, no copy: a part of the lent store, and the empty part on refusal.
+pub fn look<'a>(map: &[u8], store: &'a [u8], bank: u8, location: u8) -> &'a [u8]
+    ensures { λ r. ⌜ now r ≡ lookBytes (now (map .entry)) (now (store .entry)) bank location ⌝ }
+{
+    let looked = look_at(map, store, bank, location);
+    let offset = looked.offset as usize;
+    let end = offset + looked.width as usize;
+    &store[offset..end]
+}

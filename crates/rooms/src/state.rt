@@ -1,0 +1,111 @@
+// The state, in rooms.
+ghost use mathlib.Core.Path.{_≡_};
+ghost use Rattle.rooms.specs.State.{withWho, withRegisters, withWaiting, withDoor, withLatch};
+ghost use Rattle.rooms.specs.State.{shutDoor, openDoor, poweredOn};
+use hearing::Waiting;
+use hearing::Who;
+use memory::Latch;
+use memory::Staged;
+
+// The data transfer registers DTR0..2.
+pub struct Registers {
+    pub dtr0: u8,
+    pub dtr1: u8,
+    pub dtr2: u8,
+}
+
+// Write-enable, and the bytes that are staged while it is open.
+pub struct Door {
+    pub enabled: bool,
+    pub staged: Staged,
+}
+
+pub struct State {
+    pub who: Who,
+    pub registers: Registers,
+    pub waiting: Waiting,
+    pub door: Door,
+    pub latch: Latch,
+}
+
+pub fn with_who(state: State, who: Who) -> State
+    ensures { λ r. ⌜ r ≡ withWho state who ⌝ }
+{
+    let mut changed = state;
+    changed.who = who;
+    changed
+}
+
+pub fn with_registers(state: State, registers: Registers) -> State
+    ensures { λ r. ⌜ r ≡ withRegisters state registers ⌝ }
+{
+    let mut changed = state;
+    changed.registers = registers;
+    changed
+}
+
+pub fn with_waiting(state: State, waiting: Waiting) -> State
+    ensures { λ r. ⌜ r ≡ withWaiting state waiting ⌝ }
+{
+    let mut changed = state;
+    changed.waiting = waiting;
+    changed
+}
+
+pub fn with_door(state: State, door: Door) -> State
+    ensures { λ r. ⌜ r ≡ withDoor state door ⌝ }
+{
+    let mut changed = state;
+    changed.door = door;
+    changed
+}
+
+pub fn with_latch(state: State, latch: Latch) -> State
+    ensures { λ r. ⌜ r ≡ withLatch state latch ⌝ }
+{
+    let mut changed = state;
+    changed.latch = latch;
+    changed
+}
+
+// Closed, and nothing staged.
+pub fn shut_door() -> Door
+    ensures { λ r. ⌜ r ≡ shutDoor ⌝ }
+{
+    let none = memory::none_staged();
+    Door {
+        enabled: false,
+        staged: none,
+    }
+}
+
+// Open, and nothing staged yet.
+pub fn open_door() -> Door
+    ensures { λ r. ⌜ r ≡ openDoor ⌝ }
+{
+    let none = memory::none_staged();
+    Door {
+        enabled: true,
+        staged: none,
+    }
+}
+
+pub fn powered_on(who: Who) -> State
+    ensures { λ r. ⌜ r ≡ poweredOn who ⌝ }
+{
+    let registers = Registers {
+        dtr0: 0,
+        dtr1: 0,
+        dtr2: 0,
+    };
+    let waiting = hearing::none_waits();
+    let door = shut_door();
+    let latch = memory::none_latched();
+    State {
+        who: who,
+        registers: registers,
+        waiting: waiting,
+        door: door,
+        latch: latch,
+    }
+}
