@@ -19,6 +19,9 @@ need() {
     return 1
 }
 
+# under COMMAND..: how the two below run a program. A script may say it anew, with a limit or a clock.
+under() { "$@"; }
+
 # run_program NAME [ROOT]: runs target/bin/NAME as `rt` does, in this folder. Programs are for x86-64; on Arm the kit's
 # emulator runs them.
 run_program() {
@@ -28,7 +31,7 @@ run_program() {
     [ -x "$emulator" ] || emulator=''
     program=${2:-$(pwd)}/target/bin/$1
     [ -f "$program" ] || { say "mirto: target/bin/$1 is not built"; return 1; }
-    ${emulator:+"$emulator"} "$built/lib/ld-linux-x86-64.so.2" --library-path "$built/lib" "$program"
+    under ${emulator:+"$emulator"} "$built/lib/ld-linux-x86-64.so.2" --library-path "$built/lib" "$program"
 }
 
 # c_compiler: the compiler whose programs link our archive, which is for x86-64.
@@ -38,10 +41,10 @@ c_compiler() {
 
 # run_x86 PROGRAM..: runs a program of that compiler; on Arm the kit's emulator runs it.
 run_x86() {
-    if [ "$(uname -m)" = x86_64 ]; then
-        "$@"
-    else
+    if [ "$(uname -m)" != x86_64 ]; then
         rt_file=$(readlink -f "$(command -v rt)")
-        "${RATTLE_HOME:-$(dirname "$(dirname "$rt_file")")}/on/$(uname -m)/toolchain/bin/qemu-x86_64" -L /usr/x86_64-linux-gnu "$@"
+        built=${RATTLE_HOME:-$(dirname "$(dirname "$rt_file")")}/on/$(uname -m)/toolchain
+        set -- "$built/bin/qemu-x86_64" -L /usr/x86_64-linux-gnu "$@"
     fi
+    under "$@"
 }

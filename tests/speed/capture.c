@@ -1,4 +1,5 @@
-/* capture DIR: a unit with a map of 64 records, and three captures of 2,000,000 records each, for the bench. */
+/* capture DIR: a unit with a map of 64 records, and three captures of 2,000,000 records each, for the bench: mixed
+   traffic, mostly foreign traffic, writing sessions. */
 #include <stdint.h>
 #include <stdio.h>
 #include <stdlib.h>
@@ -63,25 +64,38 @@ static void unit(const char *dir)
 
 static uint32_t clock_now, written;
 
-static void frame(FILE *f, uint32_t number)
+static void heard(FILE *f, uint8_t kind, uint32_t number)
 {
     if (written == RECORDS)
         return;
     uint8_t r[8] = { (uint8_t)(clock_now >> 24), (uint8_t)(clock_now >> 16), (uint8_t)(clock_now >> 8),
-                     (uint8_t)clock_now, 0, (uint8_t)(number >> 16), (uint8_t)(number >> 8), (uint8_t)number };
+                     (uint8_t)clock_now, kind, (uint8_t)(number >> 16), (uint8_t)(number >> 8), (uint8_t)number };
     fwrite(r, 1, 8, f);
     clock_now += 20;
     written++;
 }
 
-/* one setting of a value: bank, ENABLE pair, lock byte, the bytes, lock byte */
+static void frame(FILE *f, uint32_t number) { heard(f, 0, number); }
+
+static void pair(FILE *f, uint32_t number)
+{
+    frame(f, number);
+    frame(f, number);
+}
+
+/* bank, ENABLE pair, lock byte */
+static void unlock(FILE *f, uint32_t bank)
+{
+    frame(f, 0xC13100 + bank);
+    pair(f, 0x0BFE15);
+    frame(f, 0xC50255);
+}
+
+/* one setting of a value: its bank unlocked, the bytes, lock byte */
 static void session(FILE *f)
 {
-    uint32_t bank = 1 + draw(BANKS), v = draw(5);
-    frame(f, 0xC13100 + bank);
-    frame(f, 0x0BFE15);
-    frame(f, 0x0BFE15);
-    frame(f, 0xC50255);
+    uint32_t v = draw(5);
+    unlock(f, 1 + draw(BANKS));
     frame(f, 0xC13000 + FIRST[v]);
     for (int i = 0; i < WIDTH[v]; i++)
         frame(f, 0xC12000 + draw(256));
@@ -105,7 +119,21 @@ static void reading(FILE *f)
         frame(f, 0x0BFE3C);
 }
 
-static void capture(const char *dir, const char *name, uint32_t sessions, uint32_t readings)
+/* queries, groups, a reset of a bank, a power-on */
+static void service(FILE *f)
+{
+    uint32_t bank = 1 + draw(BANKS);
+    switch (draw(8)) {
+    case 0: case 1: case 2: frame(f, 0x0BFE36 + draw(3)); break;
+    case 3: case 4: frame(f, 0xFFFE41 + draw(4)); break;
+    case 5: frame(f, 0xC90000 + draw(65536)), pair(f, 0x0BFE19 + draw(4)); break;
+    case 6: unlock(f, bank), frame(f, 0xC13000 + bank), pair(f, 0x0BFE11); break;
+    default: heard(f, 1, 0); break;
+    }
+}
+
+/* Of 100 turns so many are sessions, readings, services; the others are foreign frames. */
+static void capture(const char *dir, const char *name, uint32_t sessions, uint32_t readings, uint32_t services)
 {
     FILE *f = file(dir, name);
     clock_now = written = 0;
@@ -115,6 +143,8 @@ static void capture(const char *dir, const char *name, uint32_t sessions, uint32
             session(f);
         else if (turn < sessions + readings)
             reading(f);
+        else if (turn < sessions + readings + services)
+            service(f);
         else
             foreign(f);
     }
@@ -128,8 +158,8 @@ int main(int count, char **words)
         return 2;
     }
     unit(words[1]);
-    capture(words[1], "mixed", 20, 20);
-    capture(words[1], "foreign", 1, 1);
-    capture(words[1], "sessions", 90, 5);
+    capture(words[1], "mixed", 10, 15, 10);
+    capture(words[1], "foreign", 1, 1, 1);
+    capture(words[1], "sessions", 90, 5, 0);
     return 0;
 }

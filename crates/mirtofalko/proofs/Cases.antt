@@ -5,11 +5,12 @@ use lib.Count.{trailingZeros}
 use Rattle.frames.specs.Values.{schemeAt}
 use Rattle.frames.specs.Write.{bytesFrame, eventFits, eventFrame, powerFrame, writeOf}
 use Rattle.banks.specs.Rules.{checkNumber}
-use Rattle.unit.proofs.Bench.{reading, checking, looking, meaning, storing, filling, keeping, rooms, acting, calling}
+use Rattle.unit.proofs.Bench.{filling, acting, calling}
 use Rattle.mirtofalko.specs.StateBytes.{bytesOf, stateBytes, fourAt, stateOf, shapeHolds}
 use Rattle.mirtofalko.specs.Answers.{replyWord, lookWord}
 use Rattle.mirtofalko.specs.Face.{shapeNumber, startFace, frameFace, powerOnFace, runFace}
 use Rattle.mirtofalko.specs.Cases.{Cases}
+use Rattle.numbers.proofs.Computing.{reading, checking, looking, meaning, storing, keeping, rooms}
 use Rattle.words.specs.Values.{addressAt, fieldAt}
 use Rattle.composing.specs.Compose.{orMissing, sourceFits, shippedOf, orBlank, lowestGroup, eventBy, composeOf}
 use Rattle.composing.specs.Compose.{powerFits, composePowerOf}

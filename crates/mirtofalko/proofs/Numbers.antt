@@ -15,13 +15,15 @@ use Rattle.hearing.specs.declared.rooms.Heard.{Heard}
 use Rattle.rooms.specs.State.{poweredOn, zeroState}
 use Rattle.rooms.specs.declared.state.State.{State}
 use Rattle.rooms.specs.declared.reply.Stepped.{Stepped}
-use Rattle.unit.specs.Step.{stepNumber, stepOf, powerNumber, powerOnOf, startNumber}
-use Rattle.unit.specs.Promises.{GivenBy, numberOf, Refuses as UnitRefuses}
-use Rattle.unit.proofs.Numbers.{calls-numbered, calls-refused}
+use Rattle.unit.specs.Step.{stepOf, powerOnOf}
+use Rattle.unit.specs.Promises.{numberOf, Refuses as UnitRefuses}
+use Rattle.unit.proofs.Numbers.{calls-refused, calls-reply}
 use Rattle.mirtofalko.specs.StateBytes.{bytesOf, stateBytes, stateOf, shapeHolds}
 use Rattle.mirtofalko.specs.Face.{facedBy, shapeNumber, onBytes, frameFace, powerOnFace, startFace}
 use Rattle.mirtofalko.specs.Promises.{Bytes, frameTests, powerOnTests, FacesNumbered, Refuses, FacesRefused}
 use Rattle.mirtofalko.proofs.Round.{bytes-back}
+use Rattle.numbers.specs.Numbers.{stepNumber, powerNumber, startNumber}
+use Rattle.numbers.specs.Promises.{GivenBy}
 
 -- a test that fails shuts off the tests behind it
 pub shut-off : (ts us : List Test) (n : ℕ) →
@@ -41,7 +43,7 @@ module _ (map store image : List ℕ) where
       ≡ firstFailing (frameTests map store (length image) bytes frame)
   unfolding frameFace stepNumber shapeNumber
   frame-number bytes frame clock true e =
-      rw e (calls-numbered map store image .step-replies (stateOf bytes) (record { clock = clock; frame = frame }))
+      rw e (calls-reply map store image .step (stateOf bytes) (record { clock = clock; frame = frame }))
   frame-number bytes frame clock false e =
       rw e (sym (shut-off (checkTests map store (length image)) (test 1 (ltb frame 16777216) ∷ []) 12))
 
@@ -49,14 +51,14 @@ module _ (map store image : List ℕ) where
       powerOnFace map store image bytes .reply .number
       ≡ firstFailing (powerOnTests map store (length image) bytes)
   unfolding powerOnFace powerNumber shapeNumber
-  power-on-number bytes true e = rw e (calls-numbered map store image .power-replies (stateOf bytes))
+  power-on-number bytes true e = rw e (calls-reply map store image .power-on (stateOf bytes))
   power-on-number bytes false e = rw e
 
 pub faces-numbered : FacesNumbered
 unfolding startFace startNumber
 faces-numbered map store image =
     record {
-      start = λ address groups. given-by _ _ (calls-numbered map store image .start-replies _) refl;
+      start = λ address groups. given-by _ _ (calls-reply map store image .start _) refl;
       frame = λ bytes frame clock. given-by _ _ (frame-number map store image bytes frame clock _ refl) refl;
       power-on = λ bytes. given-by _ _ (power-on-number map store image bytes _ refl) refl;
     }
@@ -91,19 +93,19 @@ faces-refused map store image =
     record {
       start = λ address groups h.
           refuses _ _ zeroState store _
-          (calls-refused map store image _ h .start _ (sym (calls-numbered map store image .start-replies _)))
+          (calls-refused map store image _ h .start _ (sym (calls-reply map store image .start _)))
           zero-bytes;
       frame = λ bytes b frame clock h.
           let heard : Heard = record { clock = clock; frame = frame } in
           on-bytes map store bytes (length image) (stepOf map store image (stateOf bytes) heard) _ refl h
           (λ t k. refuses _ _ (stateOf bytes) store bytes
           (calls-refused map store image _ k .step (stateOf bytes) heard
-          (sym (calls-numbered map store image .step-replies (stateOf bytes) heard)))
+          (sym (calls-reply map store image .step (stateOf bytes) heard)))
           (bytes-back bytes b t));
       power-on = λ bytes b h.
           on-bytes map store bytes (length image) (powerOnOf map store image (stateOf bytes)) _ refl h
           (λ t k. refuses _ _ (stateOf bytes) store bytes
           (calls-refused map store image _ k .power-on (stateOf bytes)
-          (sym (calls-numbered map store image .power-replies (stateOf bytes))))
+          (sym (calls-reply map store image .power-on (stateOf bytes))))
           (bytes-back bytes b t));
     }

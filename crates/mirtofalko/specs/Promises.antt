@@ -14,13 +14,13 @@ use Rattle.banks.specs.Rules.{checkTests}
 use Rattle.rooms.specs.Rules.{stateHolds}
 use Rattle.rooms.specs.declared.reply.Reply.{Reply}
 use Rattle.rooms.specs.declared.state.State.{State}
-use Rattle.unit.specs.Step.{startTests}
-use Rattle.unit.specs.Promises.{GivenBy}
 use Rattle.tracing.specs.declared.entry.Entry.{Entry}
 use Rattle.mirtofalko.specs.StateBytes.{flag, stateBytes, stateOf, shapeHolds}
 use Rattle.mirtofalko.specs.Answers.{replyWord, lookWord}
 use Rattle.mirtofalko.specs.Answers.{checkAnswer, lookAnswer, readAnswer, writeAnswer, eventAnswer, powerAnswer}
 use Rattle.mirtofalko.specs.Face.{Faced, frameFace, powerOnFace, startFace, Faces, RunFaced, runFace, RunFaces}
+use Rattle.numbers.specs.Numbers.{startTests}
+use Rattle.numbers.specs.Promises.{GivenBy}
 use Rattle.looks.specs.declared.looked.Looked.{Looked}
 
 -- ---- a state as 96 bytes

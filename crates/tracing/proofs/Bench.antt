@@ -15,11 +15,12 @@ use Rattle.unit.specs.Run.{Input, runOf}
 use Rattle.unit.specs.Bench.{benchMap, benchStore, benchImage, benchWho, benchRun, p11, p12, late, overrun}
 use Rattle.unit.specs.Bench.{Line, says, Runs, Hold}
 use Rattle.unit.proofs.Bench.{sheet-holds}
-use Rattle.unit.proofs.Numbers.{calls-numbered, tests-in-order}
+use Rattle.unit.proofs.Numbers.{calls-reply}
 use Rattle.tracing.specs.Entry.{entryOf, entryAt, wholeRecords, isBroken}
 use Rattle.tracing.specs.Trace.{inputsOf, broken, tracedOf, whoOf, fileNumber, closed, traceOf}
 use Rattle.tracing.specs.Bench.{benchAdr, p11Records, benchTrace, BenchTraces, BenchFiles}
 use Rattle.tracing.proofs.Starts.{files-numbered}
+use Rattle.numbers.proofs.Numbers.{tests-in-order}
 use Rattle.composing.specs.Bench.{Case, sheet as framesSheet}
 
 -- the runs' lines stand behind the frames'
@@ -33,7 +34,7 @@ lines = runs-lines framesSheet (p11 ∷ p12 ∷ late ∷ overrun ∷ []) sheet-h
 -- start accepts the files, so 7 to 11 are passed
 checked : checkNumber benchMap benchStore 6 ≡ 0
 checked =
-    let started = sym (calls-numbered benchMap benchStore benchImage .start-replies benchWho) ∙ lines .0 .starts in
+    let started = sym (calls-reply benchMap benchStore benchImage .start benchWho) ∙ lines .0 .starts in
     ⊎-elim (λ z. z) (λ h. absurd (omega (arith, tests-in-order benchMap benchStore 6 .start-first benchWho h)))
     (eq-zero-or-pos (checkNumber benchMap benchStore 6))
 

@@ -6,11 +6,11 @@ ghost use lib.ListN.{length};
 ghost use Rattle.laws.specs.Choice.{if_then_else_};
 ghost use Rattle.laws.specs.Outcome.{Gives};
 ghost use Rattle.laws.specs.Parts.{put};
-ghost use Rattle.unit.specs.Step.{powerNumber};
 ghost use Rattle.unit.specs.Run.{outputOf};
 ghost use Rattle.tracing.specs.Entry.{entries, isFramed};
 ghost use Rattle.tracing.specs.Trace.{tracedOf};
 ghost use Rattle.tracing.specs.Run.{turnOf, Begins, Turns, roomFor, Runs};
+ghost use Rattle.numbers.specs.Numbers.{powerNumber};
 use crate::entry::Entry;
 use crate::entry::entry_at;
 use crate::entry::is_broken;
@@ -122,7 +122,7 @@ pub fn run(
     ensures { λ r. ⌜ Runs r (now (store .exit)) (now (output .exit)) (now (output .entry)) (tracedOf (now (map .entry)) (now (image .entry)) (now (store .entry)) state (entries (now (records .entry)) (roomFor (length (now (records .entry))) (length (now (output .entry)))))) ⌝ }
 {
     let n = room_for(records.len(), output.len());
-    let number = unit::power_number(map, store, image, state);
+    let number = numbers::power_number(map, store, image, state);
     let mut ran = Ran {
         state: state,
         count: 0,

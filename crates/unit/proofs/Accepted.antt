@@ -15,14 +15,15 @@ use Rattle.memory.specs.Promises.{ChangesOnly}
 use Rattle.rooms.specs.State.{zeroState}
 use Rattle.rooms.specs.declared.state.State.{State}
 use Rattle.rooms.specs.declared.reply.Stepped.{Stepped}
-use Rattle.unit.specs.Step.{startOf, powerNumber, powerOnOf, stepOf, unless}
+use Rattle.unit.specs.Step.{startOf, powerOnOf, stepOf, unless}
 use Rattle.unit.specs.Keeping.{CallsKeepStore, OneValue, OneValueChanges, CallsPowerOn}
 use Rattle.unit.specs.Keeping.{PassesAgain, CallsAcceptedAgain, AllAccepted, isInput, RunAccepted}
 use Rattle.unit.specs.Run.{Input, power-on, hears, inputOf}
 use Rattle.unit.specs.Promises.{numberOf}
-use Rattle.unit.proofs.Numbers.{calls-accepted, calls-numbered}
+use Rattle.unit.proofs.Numbers.{calls-accepted, calls-reply}
 use Rattle.unit.proofs.Sound.{start-sound, power-sound, step-sound, sound-power, sound-step}
 use Rattle.unit.proofs.Changes.{unchanged, changes, frame-sound, powered-changes, powered-sound, powers-on}
+use Rattle.numbers.specs.Numbers.{powerNumber}
 
 -- a refused call leaves the store
 unless-store : (P : List ℕ → Type 0) (n : ℕ) (s : State) (store : List ℕ) (o : Outcome Stepped)
@@ -89,10 +90,10 @@ module _ (map image : List ℕ) where
       → (numberOf (inputOf map image store s x) ≡ 0) × PassesAgain map image (inputOf map image store s x)
   unfolding inputOf
   one-accepted store s e power-on i =
-      (calls-numbered map store image .power-replies s ∙ e, accepted-again map store image .power-on s e)
+      (calls-reply map store image .power-on s ∙ e, accepted-again map store image .power-on s e)
   one-accepted store s e (hears heard) i =
       let n = accepted-again map store image .next s (heard .frame) e (ltb-true (heard .frame) 16777216 i) in
-      (calls-numbered map store image .step-replies s heard ∙ n, accepted-again map store image .step s heard n)
+      (calls-reply map store image .step s heard ∙ n, accepted-again map store image .step s heard n)
 
   all-accepted : (store : List ℕ) (s : State) → powerNumber map store (length image) s ≡ 0 → (xs : List Input)
       → every isInput xs ≡ true → AllAccepted map image store s xs

@@ -29,7 +29,7 @@ use Rattle.rooms.proofs.Dues.{pair-closes, pair-waits, waits-pair}
 use Rattle.unit.specs.Step.{hearing, done, frameOf, stepOf}
 use Rattle.unit.specs.Promises.{numberOf}
 use Rattle.unit.specs.Leaving.{ForeignPassesBy, noCommand, next, Interrupted, EventBreaksPair}
-use Rattle.unit.proofs.Numbers.{calls-accepted, calls-numbered}
+use Rattle.unit.proofs.Numbers.{calls-accepted, calls-reply}
 
 -- where none waits, what is not in use is zero
 pub none-waiting : (s : State) → waitingHolds s ≡ true → s .waiting .held ≡ false → s .waiting ≡ noneWaits
@@ -82,7 +82,7 @@ again-waits rs s first again e q =
 accepted-step : (map store image : List ℕ) (s : State) (heard : Heard) → numberOf (stepOf map store image s heard) ≡ 0
     → stepOf map store image s heard ≡ frameOf (recordsOf map) store image s heard
 accepted-step map store image s heard e =
-    calls-accepted map store image .step s heard (sym (calls-numbered map store image .step-replies s heard) ∙ e)
+    calls-accepted map store image .step s heard (sym (calls-reply map store image .step s heard) ∙ e)
 
 module _ (map store image : List ℕ) (s : State) (first between again : Heard) where
   abbrev one : Outcome Stepped

@@ -1,37 +1,26 @@
--- Start, power-on and frame step as calls: settled, numbered exactly, and refused without a trace.
+-- Start, power-on and frame step as calls: settled, with the number of their tests, and refused without a trace.
 -- Assumes nothing.
 use Prim.Native.Nat.{ℕ, _<_}
 use mathlib.Core.Path.{_≡_, refl, sym, _∙_}
-use mathlib.Core.Bool.{true}
-use mathlib.Core.List.{List, [], _∷_, _++_}
+use mathlib.Core.List.{List}
 use native.Mathlib.Omega.{arith}
 use borrow.Author.Tests.{eq-eqb, ne-eqb}
-use lib.Dec.{ltb}
-use lib.ListN.{length}
-use Rattle.laws.specs.Numbers.{Test, test, firstFailing, numbered}
 use Rattle.laws.specs.Outcome.{Outcome}
-use Rattle.laws.proofs.Numbers.{exactly-if, none-exactly-if}
-use Rattle.laws.proofs.Joined.{joined-none, joined-some}
-use Rattle.laws.proofs.Settled.{settles, settles-both}
+use Rattle.laws.proofs.Settled.{settles-both}
 use Rattle.laws.proofs.Tests.{if-eq}
 use Rattle.banks.specs.Map.{recordsOf}
-use Rattle.banks.specs.Rules.{checkTests, checkNumber}
 use Rattle.banks.specs.declared.record.Record.{Record}
 use Rattle.hearing.specs.declared.rooms.Heard.{Heard}
-use Rattle.hearing.specs.declared.rooms.Who.{Who}
 use Rattle.rooms.specs.Reply.{quiet, answering, refusing}
 use Rattle.rooms.specs.State.{zeroState}
-use Rattle.rooms.specs.Rules.{addressHolds, stateHolds}
 use Rattle.rooms.specs.Due.{dueOf}
 use Rattle.rooms.specs.declared.state.State.{State}
 use Rattle.rooms.specs.declared.reply.Stepped.{Stepped}
 use Rattle.rooms.specs.declared.due.Due.{Due}
 use Rattle.rooms.specs.declared.due.Due.the-variants.{Nothing, Waits, Opens, Resets, Becomes, Loads, Answers}
 use Rattle.rooms.specs.declared.due.Due.the-variants.{Writes, Reads}
-use Rattle.unit.specs.Step.{written, readBy, done, frameOf, powerOf, unless, stepTests, stepNumber, stepOf}
-use Rattle.unit.specs.Step.{startTests, startNumber, startOf, powerTests, powerNumber, powerOnOf}
-use Rattle.unit.specs.Promises.{TestsInOrder, CallsAccepted}
-use Rattle.unit.specs.Promises.{GivenBy, numberOf, Refuses, CallsSettled, CallsNumbered, CallsRefused}
+use Rattle.unit.specs.Step.{written, readBy, done, frameOf, powerOf, unless, stepOf, startOf, powerOnOf}
+use Rattle.unit.specs.Promises.{numberOf, Refuses, CallsSettled, CallsRefused, CallsReply, CallsAccepted}
 
 pub calls-settled : CallsSettled
 calls-settled map store image =
@@ -39,13 +28,7 @@ calls-settled map store image =
       start = λ who. settles-both (startOf map store image who);
       power-on = λ s. settles-both (powerOnOf map store image s);
       step = λ s heard. settles-both (stepOf map store image s heard);
-      start-number = λ who. settles (startNumber map store (length image) who);
-      power-number = λ s. settles (powerNumber map store (length image) s);
-      step-number = λ s frame. settles (stepNumber map store (length image) s frame);
     }
-
-given-by : (tests : List Test) → numbered tests ≡ true → GivenBy (firstFailing tests) tests
-given-by tests k = record { exactly-if = exactly-if tests; none-exactly-if = none-exactly-if tests k }
 
 -- whatever is due, its reply has number 0
 done-number : (rs : List Record) (store image : List ℕ) (s : State) (heard : Heard) (due : Due)
@@ -89,51 +72,15 @@ calls-accepted map store image =
       step = λ s heard e. accepting s store (frameOf (recordsOf map) store image s heard) _ e;
     }
 
-pub calls-numbered : CallsNumbered
-unfolding startNumber powerNumber stepNumber startOf powerOnOf stepOf powerOf quiet
-calls-numbered map store image =
+pub calls-reply : CallsReply
+unfolding startOf powerOnOf stepOf powerOf quiet
+calls-reply map store image =
     record {
-      start = λ who. given-by (startTests map store (length image) who) refl;
-      power-on = λ s. given-by (powerTests map store (length image) s) refl;
-      step = λ s frame. given-by (stepTests map store (length image) s frame) refl;
-      start-replies = λ who. unless-number zeroState store (powerOf (recordsOf map) store image who) _ refl;
-      power-replies = λ s. unless-number s store (powerOf (recordsOf map) store image (s .who)) _ refl;
-      step-replies = λ s heard.
+      start = λ who. unless-number zeroState store (powerOf (recordsOf map) store image who) _ refl;
+      power-on = λ s. unless-number s store (powerOf (recordsOf map) store image (s .who)) _ refl;
+      step = λ s heard.
           unless-number s store (frameOf (recordsOf map) store image s heard) _
           (frame-number (recordsOf map) store image s heard);
-    }
-
--- the tests behind 7 to 11
-abbrev pub startsBehind : Who → List Test
-startsBehind who = test 6 (addressHolds (who .address)) ∷ []
-
-abbrev pub powersBehind : List ℕ → List ℕ → State → List Test
-powersBehind map store s = test 12 (stateHolds (recordsOf map) store s) ∷ []
-
-abbrev pub stepsBehind : List ℕ → List ℕ → State → ℕ → List Test
-stepsBehind map store s frame = test 12 (stateHolds (recordsOf map) store s) ∷ test 1 (ltb frame 16777216) ∷ []
-
--- 7 to 11 give their number, or the tests behind them do
-module _ (map store : List ℕ) (kept : ℕ) (us : List Test) where
-  checks-first : 0 < checkNumber map store kept
-      → firstFailing (checkTests map store kept ++ us) ≡ checkNumber map store kept
-  unfolding checkNumber
-  checks-first h = joined-some (checkTests map store kept) us (checkNumber map store kept) h refl
-
-  checks-passed : checkNumber map store kept ≡ 0 → firstFailing (checkTests map store kept ++ us) ≡ firstFailing us
-  unfolding checkNumber
-  checks-passed e = joined-none (checkTests map store kept) us refl e
-
-pub tests-in-order : TestsInOrder
-unfolding startNumber powerNumber stepNumber firstFailing
-tests-in-order map store kept =
-    record {
-      start-first = λ who. checks-first map store kept (startsBehind who);
-      power-first = λ s. checks-first map store kept (powersBehind map store s);
-      step-first = λ s frame. checks-first map store kept (stepsBehind map store s frame);
-      start-then = λ who. checks-passed map store kept (startsBehind who);
-      power-then = λ s. checks-passed map store kept (powersBehind map store s);
-      step-then = λ s frame. checks-passed map store kept (stepsBehind map store s frame);
     }
 
 pub calls-refused : CallsRefused

@@ -2,8 +2,8 @@
 -- Assumes nothing.
 use mathlib.Core.Path.{refl}
 use Rattle.unit.specs.Worked.{WorkedHold}
-use Rattle.unit.proofs.Bench.{reading, checking, looking, meaning, storing, filling, keeping, rooms, acting}
-use Rattle.unit.proofs.Bench.{calling}
+use Rattle.unit.proofs.Bench.{filling, acting, calling}
+use Rattle.numbers.proofs.Computing.{reading, checking, looking, meaning, storing, keeping, rooms}
 
 pub worked-hold : WorkedHold
 unfolding reading checking looking meaning storing filling keeping rooms acting calling

@@ -4,5 +4,4 @@ pub mod Promises
 pub mod Leaving
 pub mod Keeping
 pub mod Bench
-pub mod Cases
 pub mod Worked

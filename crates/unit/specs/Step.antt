@@ -2,14 +2,12 @@
 -- Assumes nothing.
 use Prim.Native.Nat.{ℕ, _+_}
 use mathlib.Core.Bool.{Bool, true, false, _&&_}
-use mathlib.Core.List.{List, [], _∷_, _++_}
-use lib.Dec.{ltb, eqb}
+use mathlib.Core.List.{List}
+use lib.Dec.{eqb}
 use lib.ListN.{length}
 use Rattle.laws.specs.Choice.{if_then_else_}
-use Rattle.laws.specs.Numbers.{Test, test, firstFailing}
 use Rattle.laws.specs.Outcome.{Outcome, leaves}
 use Rattle.banks.specs.Map.{recordsOf}
-use Rattle.banks.specs.Rules.{checkTests}
 use Rattle.banks.specs.declared.record.Record.{Record}
 use Rattle.memory.specs.Staged.{writeOf}
 use Rattle.memory.specs.Latched.{readOf}
@@ -24,7 +22,6 @@ use Rattle.hearing.specs.declared.rooms.Heard.{Heard}
 use Rattle.rooms.specs.State.{withWho, withRegisters, withWaiting, withDoor, withLatch, shutDoor, openDoor}
 use Rattle.rooms.specs.Reply.{quiet, answering, refusing}
 use Rattle.rooms.specs.State.{poweredOn, zeroState}
-use Rattle.rooms.specs.Rules.{addressHolds, stateHolds}
 use Rattle.rooms.specs.Due.{withDtr, dueOf}
 use Rattle.rooms.specs.declared.state.State.{State}
 use Rattle.rooms.specs.declared.reply.Reply.{Reply}
@@ -32,6 +29,7 @@ use Rattle.rooms.specs.declared.reply.Stepped.{Stepped}
 use Rattle.rooms.specs.declared.due.Due.{Due}
 use Rattle.rooms.specs.declared.due.Due.the-variants.{Nothing, Waits, Opens, Resets, Becomes, Loads, Answers}
 use Rattle.rooms.specs.declared.due.Due.the-variants.{Writes, Reads}
+use Rattle.numbers.specs.Numbers.{stepNumber, powerNumber, startNumber}
 
 -- any frame clears the waiting one; what closes write-enable drops staging
 unfoldable pub hearing : State → Bool → State
@@ -76,29 +74,6 @@ frameOf rs store image s heard =
 -- a power-on keeps address and groups: lock bytes 0xFF, other RAM-RW values from the reset image
 unfoldable pub powerOf : List Record → List ℕ → List ℕ → Who → Outcome Stepped
 powerOf rs store image who = leaves (quiet (poweredOn who)) (filledOf rs store image PowerOn)
-
--- a frame step tests 7 to 12, then 1
-abbrev pub stepTests : List ℕ → List ℕ → ℕ → State → ℕ → List Test
-stepTests map store kept s frame =
-    checkTests map store kept
-    ++ test 12 (stateHolds (recordsOf map) store s) ∷ test 1 (ltb frame 16777216) ∷ []
-
-unfoldable pub stepNumber : List ℕ → List ℕ → ℕ → State → ℕ → ℕ
-stepNumber map store kept s frame = firstFailing (stepTests map store kept s frame)
-
--- a later power-on tests 7 to 12
-abbrev pub powerTests : List ℕ → List ℕ → ℕ → State → List Test
-powerTests map store kept s = checkTests map store kept ++ test 12 (stateHolds (recordsOf map) store s) ∷ []
-
-unfoldable pub powerNumber : List ℕ → List ℕ → ℕ → State → ℕ
-powerNumber map store kept s = firstFailing (powerTests map store kept s)
-
--- start tests 7 to 11, then 6
-abbrev pub startTests : List ℕ → List ℕ → ℕ → Who → List Test
-startTests map store kept who = checkTests map store kept ++ test 6 (addressHolds (who .address)) ∷ []
-
-unfoldable pub startNumber : List ℕ → List ℕ → ℕ → Who → ℕ
-startNumber map store kept who = firstFailing (startTests map store kept who)
 
 -- a refusal returns the number; state and store stay
 abbrev pub unless : ℕ → State → List ℕ → Outcome Stepped → Outcome Stepped

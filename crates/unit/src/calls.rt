@@ -1,26 +1,26 @@
-// Start, power-on, a frame step, and their numbers.
+// Start, power-on and a frame step.
 ghost use mathlib.Core.Path.{_≡_};
 ghost use mathlib.Core.Bool.{true};
 ghost use lib.ListN.{length};
 ghost use Rattle.laws.specs.Outcome.{Gives};
 ghost use Rattle.banks.specs.Map.{recordsOf};
 ghost use Rattle.banks.specs.Rules.{placed};
-ghost use Rattle.unit.specs.Step.{frameOf, powerOf, stepNumber, powerNumber, startNumber};
-ghost use Rattle.unit.specs.Step.{stepOf, powerOnOf, startOf};
+ghost use Rattle.unit.specs.Step.{frameOf, powerOf, stepOf, powerOnOf, startOf};
 use crate::acts::act;
 use crate::acts::hear;
 use frames::Reading;
 use hearing::Heard;
 use hearing::Who;
 use memory::Filling;
+use numbers::power_number;
+use numbers::start_number;
+use numbers::step_number;
 use rooms::State;
 use rooms::Stepped;
-use rooms::address_holds;
 use rooms::due_by;
 use rooms::powered_on;
 use rooms::quiet;
 use rooms::refusing;
-use rooms::state_holds;
 
 // Internal: a frame step on a map, store and state that keep the rules. Whoever runs many frames checks once, and then
 // calls this. A reserved frame goes straight to clearing the waiting one.
@@ -45,43 +45,6 @@ pub fn power_step(map: &[u8], store: &mut [u8], image: &[u8], who: Who) -> Stepp
 {
     memory::fill_store(map, store, image, Filling::PowerOn);
     quiet(powered_on(who))
-}
-
-// The number of a power-on: 7 to 12, or 0.
-pub fn power_number(map: &[u8], store: &[u8], image: &[u8], state: State) -> u8
-    ensures { λ r. ⌜ r ≡ powerNumber (now (map .entry)) (now (store .entry)) (length (now (image .entry))) state ⌝ }
-{
-    let number = banks::check(map, store, image);
-    if number != 0 {
-        return number;
-    }
-    if state_holds(map, store, state) {
-        0
-    } else {
-        12
-    }
-}
-
-// The number of a frame step: 7 to 12, then 1, or 0.
-pub fn step_number(map: &[u8], store: &[u8], image: &[u8], state: State, frame: u32) -> u8
-    ensures { λ r. ⌜ r ≡ stepNumber (now (map .entry)) (now (store .entry)) (length (now (image .entry))) state frame ⌝ }
-{
-    let number = power_number(map, store, image, state);
-    if number != 0 {
-        return number;
-    }
-    if frame < 16777216 { 0 } else { 1 }
-}
-
-// The number of a start: 7 to 11, then 6, or 0.
-pub fn start_number(map: &[u8], store: &[u8], image: &[u8], who: Who) -> u8
-    ensures { λ r. ⌜ r ≡ startNumber (now (map .entry)) (now (store .entry)) (length (now (image .entry))) who ⌝ }
-{
-    let number = banks::check(map, store, image);
-    if number != 0 {
-        return number;
-    }
-    if address_holds(who.address) { 0 } else { 6 }
 }
 
 pub fn step(map: &[u8], store: &mut [u8], image: &[u8], state: State, heard: Heard) -> Stepped

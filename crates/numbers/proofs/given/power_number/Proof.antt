@@ -1,10 +1,10 @@
--- `unit::calls::power_number` meets its contract.
+-- `numbers::given::power_number` meets its contract.
 -- Assumes nothing.
 use mathlib.Core.Path.{sym, _∙_}
 use borrow.Author.Needs.{needs}
-use Rattle.unit.proofs.Behind.{power-first, power-then, checked}
-use Rattle.unit.proofs.calls.power_number.Statement.{statement}
-use Rattle.unit.proofs.calls.power_number.Tie as tie
+use Rattle.numbers.proofs.Behind.{power-first, power-then, checked}
+use Rattle.numbers.proofs.given.power_number.Statement.{statement}
+use Rattle.numbers.proofs.given.power_number.Tie as tie
 
 returns-2 : tie.Need-returns-2
 returns-2 c =

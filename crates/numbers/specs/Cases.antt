@@ -6,10 +6,10 @@ use mathlib.Core.Path.{_≡_}
 use mathlib.Core.Bool.{Bool, true, false}
 use mathlib.Core.List.{List, [], _∷_, map}
 use lib.ListN.{length}
+use Rattle.banks.specs.Cases.{benchMap, benchStore}
 use Rattle.rooms.specs.State.{withWho, withWaiting, withDoor, withLatch, poweredOn}
 use Rattle.rooms.specs.declared.state.State.{State}
-use Rattle.unit.specs.Step.{startNumber, powerNumber, stepNumber}
-use Rattle.unit.specs.Bench.{benchMap, benchStore, benchImage, benchWho}
+use Rattle.numbers.specs.Numbers.{startNumber, powerNumber, stepNumber}
 
 -- a state, the store with it, a frame, and the number of a step; a power-on has the same, but for 1
 pub record StateCase : Type 0 where
@@ -20,7 +20,7 @@ pub record StateCase : Type 0 where
   pub power-on : ℕ
 
 abbrev idle : State
-idle = poweredOn benchWho
+idle = poweredOn (record { address = 5; groups = 0 })
 
 -- the lock byte 0x55
 abbrev openStore : List ℕ
@@ -112,9 +112,9 @@ stateCases =
 -- each case gets its numbers
 unfoldable pub StateCases : Type 0
 StateCases =
-    (map (λ c. stepNumber benchMap (c .store) (length benchImage) (c .state) (c .frame)) stateCases
+    (map (λ c. stepNumber benchMap (c .store) (length benchStore) (c .state) (c .frame)) stateCases
     ≡ map (λ c. c .step) stateCases)
-    × (map (λ c. powerNumber benchMap (c .store) (length benchImage) (c .state)) stateCases
+    × (map (λ c. powerNumber benchMap (c .store) (length benchStore) (c .state)) stateCases
     ≡ map (λ c. c .power-on) stateCases)
 
 -- start: the address handed in, the store, the number: 7 to 11, then 6
@@ -138,6 +138,6 @@ startCases =
 
 unfoldable pub StartCases : Type 0
 StartCases =
-    map (λ c. startNumber benchMap (c .store) (length benchImage) (record { address = c .address; groups = 0 }))
+    map (λ c. startNumber benchMap (c .store) (length benchStore) (record { address = c .address; groups = 0 }))
     startCases
     ≡ map (λ c. c .number) startCases

@@ -15,8 +15,8 @@ use Rattle.banks.proofs.Standing.{check-stands}
 use Rattle.hearing.specs.declared.rooms.Who.{Who}
 use Rattle.rooms.specs.Rules.{addressHolds, stateHolds}
 use Rattle.rooms.specs.declared.state.State.{State}
-use Rattle.unit.specs.Step.{powerTests, powerNumber, stepNumber, startNumber}
-use Rattle.unit.proofs.Numbers.{tests-in-order}
+use Rattle.numbers.specs.Numbers.{powerTests, powerNumber, stepNumber, startNumber}
+use Rattle.numbers.proofs.Numbers.{tests-in-order}
 
 -- a number that is not 0 is that of the call, if the tests before it come first
 first-by : {k m : ℕ} (n : ℕ) → n ≡ k → (n ≡ 0 → ⊥) → (0 < k → m ≡ k) → n ≡ m

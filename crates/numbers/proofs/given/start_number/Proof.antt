@@ -1,9 +1,9 @@
--- `unit::calls::start_number` meets its contract.
+-- `numbers::given::start_number` meets its contract.
 -- Assumes nothing.
 use borrow.Author.Needs.{needs}
-use Rattle.unit.proofs.Behind.{start-first, start-then}
-use Rattle.unit.proofs.calls.start_number.Statement.{statement}
-use Rattle.unit.proofs.calls.start_number.Tie as tie
+use Rattle.numbers.proofs.Behind.{start-first, start-then}
+use Rattle.numbers.proofs.given.start_number.Statement.{statement}
+use Rattle.numbers.proofs.given.start_number.Tie as tie
 
 returns-2 : tie.Need-returns-2
 returns-2 c =

@@ -1,10 +1,10 @@
--- `unit::calls::step_number` meets its contract.
+-- `numbers::given::step_number` meets its contract.
 -- Assumes nothing.
 use borrow.Author.Tests.{lt-ltb, le-ltb}
 use borrow.Author.Needs.{needs}
-use Rattle.unit.proofs.Behind.{step-first, step-then}
-use Rattle.unit.proofs.calls.step_number.Statement.{statement}
-use Rattle.unit.proofs.calls.step_number.Tie as tie
+use Rattle.numbers.proofs.Behind.{step-first, step-then}
+use Rattle.numbers.proofs.given.step_number.Statement.{statement}
+use Rattle.numbers.proofs.given.step_number.Tie as tie
 
 returns-2 : tie.Need-returns-2
 returns-2 c =

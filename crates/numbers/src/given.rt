@@ -1,0 +1,45 @@
+// The numbers of a start, of a power-on and of a frame step.
+ghost use mathlib.Core.Path.{_≡_};
+ghost use lib.ListN.{length};
+ghost use Rattle.numbers.specs.Numbers.{stepNumber, powerNumber, startNumber};
+use hearing::Who;
+use rooms::State;
+use rooms::address_holds;
+use rooms::state_holds;
+
+// The number of a power-on: 7 to 12, or 0.
+pub fn power_number(map: &[u8], store: &[u8], image: &[u8], state: State) -> u8
+    ensures { λ r. ⌜ r ≡ powerNumber (now (map .entry)) (now (store .entry)) (length (now (image .entry))) state ⌝ }
+{
+    let number = banks::check(map, store, image);
+    if number != 0 {
+        return number;
+    }
+    if state_holds(map, store, state) {
+        0
+    } else {
+        12
+    }
+}
+
+// The number of a frame step: 7 to 12, then 1, or 0.
+pub fn step_number(map: &[u8], store: &[u8], image: &[u8], state: State, frame: u32) -> u8
+    ensures { λ r. ⌜ r ≡ stepNumber (now (map .entry)) (now (store .entry)) (length (now (image .entry))) state frame ⌝ }
+{
+    let number = power_number(map, store, image, state);
+    if number != 0 {
+        return number;
+    }
+    if frame < 16777216 { 0 } else { 1 }
+}
+
+// The number of a start: 7 to 11, then 6, or 0.
+pub fn start_number(map: &[u8], store: &[u8], image: &[u8], who: Who) -> u8
+    ensures { λ r. ⌜ r ≡ startNumber (now (map .entry)) (now (store .entry)) (length (now (image .entry))) who ⌝ }
+{
+    let number = banks::check(map, store, image);
+    if number != 0 {
+        return number;
+    }
+    if address_holds(who.address) { 0 } else { 6 }
+}

@@ -1,0 +1,147 @@
+/* The stack that each call of the C library needs, in bytes: it runs on a stack of its own that was painted before, and
+   the lowest byte that it wrote counts. Worst over random units, each with a start, a reset of all its banks, and a
+   list of frames. */
+#define _XOPEN_SOURCE 700
+#include "inputs.h"
+
+#include <inttypes.h>
+#include <stdio.h>
+#include <string.h>
+#include <ucontext.h>
+
+enum { STACK = 1 << 16, PAINT = 0xA5, UNITS = 400, FRAMES = 60, RESET_BANK = 0xFFFE11, ADDRESS = 5, GROUPS = 2 };
+
+static uint8_t stack[STACK], records_in[64], records_out[32];
+static ucontext_t here, there;
+static void (*job)(void);
+
+static Lent lent;
+static Kept kept, tried;
+static uint32_t frame, now;
+static uint64_t word;
+
+static void do_nothing(void) {}
+
+static void do_check(void)
+{
+    mf_check(lent.map, lent.map_length, kept.store, lent.store_length, lent.image, lent.image_length);
+}
+
+static void do_start(void)
+{
+    mf_start(lent.map, lent.map_length, tried.store, lent.store_length, lent.image, lent.image_length, ADDRESS, GROUPS,
+             tried.state);
+}
+
+static void do_frame(void)
+{
+    mf_frame(lent.map, lent.map_length, tried.store, lent.store_length, lent.image, lent.image_length, tried.state,
+             frame, now);
+}
+
+static void do_power_on(void)
+{
+    mf_power_on(lent.map, lent.map_length, tried.store, lent.store_length, lent.image, lent.image_length, tried.state);
+}
+
+static void do_run(void)
+{
+    mf_run(lent.map, lent.map_length, tried.store, lent.store_length, lent.image, lent.image_length, tried.state,
+           records_in, sizeof records_in, records_out, sizeof records_out);
+}
+
+static void do_look(void)
+{
+    mf_look(lent.map, lent.map_length, kept.store, lent.store_length, (uint8_t)(frame >> 8), (uint8_t)frame);
+}
+
+static void do_read(void) { word = mf_read(frame); }
+static void do_write(void) { mf_write(word); }
+static void do_compose_event(void) { mf_compose_event(1, 2, 3, 4, frame, 5, frame % 5); }
+static void do_compose_power(void) { mf_compose_power(frame % 64, frame); }
+
+static struct {
+    const char *name;
+    void (*job)(void);
+    size_t worst;
+} calls[] = {
+    {"mf_check", do_check, 0},           {"mf_start", do_start, 0},
+    {"mf_frame", do_frame, 0},           {"mf_power_on", do_power_on, 0},
+    {"mf_run", do_run, 0},               {"mf_look", do_look, 0},
+    {"mf_read", do_read, 0},             {"mf_write", do_write, 0},
+    {"mf_compose_event", do_compose_event, 0}, {"mf_compose_power", do_compose_power, 0},
+};
+
+enum { CALLS = sizeof calls / sizeof *calls };
+
+static void run_job(void) { job(); }
+
+/* Bytes of the painted stack that the job wrote to. */
+static size_t depth(void (*what)(void))
+{
+    size_t left = 0;
+    memset(stack, PAINT, sizeof stack);
+    job = what;
+    getcontext(&there);
+    there.uc_stack.ss_sp = stack, there.uc_stack.ss_size = sizeof stack, there.uc_link = &here;
+    makecontext(&there, run_job, 0);
+    swapcontext(&here, &there);
+    while (left < sizeof stack && stack[left] == PAINT)
+        left++;
+    return sizeof stack - left;
+}
+
+/* Each call on a copy, at this frame. */
+static void try_all(void)
+{
+    for (size_t i = 0; i < CALLS; i++) {
+        tried = kept;
+        size_t deep = depth(calls[i].job);
+        calls[i].worst = deep > calls[i].worst ? deep : calls[i].worst;
+    }
+}
+
+static void hear(uint32_t number)
+{
+    frame = number, now += 10;
+    try_all();
+    tried = kept;
+    do_frame();
+    kept = tried;
+}
+
+/* All banks unlocked, and a reset of all; the records of the run are the same pair. */
+static void reset_all(void)
+{
+    for (size_t i = 0; i < records(&lent); i++)
+        if (record(&lent, i)[0] > 0 && record(&lent, i)[1] == 2)
+            kept.store[place_of(record(&lent, i))] = 0x55;
+    for (size_t i = 0; i < sizeof records_in; i += 8)
+        memcpy(records_in + i, (uint8_t[]){0, 0, 0, 0, 0, 0xFF, 0xFE, 0x11}, 8);
+    hear(RESET_BANK);
+    hear(RESET_BANK);
+}
+
+int main(void)
+{
+    size_t full = 0, least = 0, deepest = 0;
+    begin(1);
+    for (uint32_t i = 0; i < UNITS; i++) {
+        Plan plan = {{0}, 0, 0};
+        make_lent(&lent, &kept);
+        full += records(&lent) == 64;
+        tried = kept;
+        do_start();
+        kept = tried;
+        reset_all();
+        for (uint32_t n = 0; n < FRAMES; n++)
+            hear(next_frame(&plan, &lent, &kept));
+    }
+    least = depth(do_nothing);
+    for (size_t i = 0; i < CALLS; i++) {
+        printf("stack: %-17s %6zu bytes\n", calls[i].name, calls[i].worst - least);
+        deepest = calls[i].worst - least > deepest ? calls[i].worst - least : deepest;
+    }
+    printf("stack of the deepest call: %zu bytes (%d units, %zu of them with 64 records)\n", deepest, UNITS, full);
+    return full == 0;
+}
