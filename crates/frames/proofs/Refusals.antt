@@ -16,10 +16,8 @@ use Rattle.frames.specs.Values.{targetAt, readingNumber, writingNumber}
 use Rattle.frames.specs.Read.{specialForm, addressOf, targetOf, aimed, addressed, commandOf, schemeOf, fieldOf}
 use Rattle.frames.specs.Read.{powered, powerOf, otherOf, schemed, eventOf, readOf}
 use Rattle.frames.specs.Write.{writeOf, messageFits}
-use Rattle.frames.specs.Refusals.{reservedAddress, reservedInstance}
-use Rattle.frames.specs.Refusals.{notBlank}
+use Rattle.frames.specs.Refusals.{reservedAddress, reservedInstance, notBlank, Reserved59}
 use Rattle.frames.specs.Refusals.{readerTests, ReaderNumbers, writerTests, WriterNumbers, Reserved14}
-use Rattle.frames.specs.Refusals.{Reserved59}
 use Rattle.frames.specs.declared.message.Address.{Address}
 use Rattle.frames.specs.declared.message.Addressed.{Addressed}
 use Rattle.frames.specs.declared.message.Fielded.{Fielded}

@@ -22,6 +22,7 @@ use Rattle.rooms.specs.Due.{dtrOf, withDtr, shortDue, writeDue, onceDue, pairDu
 use Rattle.rooms.specs.Rules.{waitingHolds, doorHolds, stateHolds}
 use Rattle.rooms.specs.State.{withWho, withRegisters, withWaiting, withDoor, withLatch, poweredOn}
 use Rattle.rooms.specs.Reply.{quiet, answering, refusing}
+use Rattle.numbers.specs.Numbers.{stepNumber, startNumber}
 use Rattle.unit.specs.Bench.{benchMap, benchStore, benchImage, benchWho}
 use Rattle.unit.specs.Run.{Input}
 use Rattle.unit.specs.Step.{hearing, raised, written, done, frameOf, powerOf, stepOf, startOf}
@@ -29,7 +30,6 @@ use Rattle.history.specs.Bench.{p11Frames, p12Frames, benchValue, p11Twi
 use Rattle.history.specs.Demand.{bytesOf}
 use Rattle.history.specs.Wrong.{eachByte, firstOnly, neverStores}
 use Rattle.history.specs.Machine.{Machine, Accepted, unitMachine}
-use Rattle.numbers.specs.Numbers.{stepNumber, startNumber}
 
 -- on the bench, after the list: every call accepted, and the value of width 4 is these bytes
 abbrev pub Gives : {S : Type 0} → Machine S → List Input → List ℕ → Type 0

@@ -14,8 +14,8 @@ use Rattle.banks.specs.Lookup.{valueOf}
 use Rattle.banks.specs.Facts.{Member, Fielded, Stands, LockRecord}
 use Rattle.banks.specs.declared.record.Record.{Record}
 use Rattle.banks.proofs.ForHistory.{lock-of}
-use Rattle.hearing.specs.declared.rooms.Who.{Who}
 use Rattle.memory.proofs.ForHistoryFilled.{fresh-lock, power-value}
+use Rattle.hearing.specs.declared.rooms.Who.{Who}
 use Rattle.unit.specs.Run.{Input, power-on, hears, inputOf, runFrom, runOf}
 use Rattle.history.specs.Lock.{lock}
 use Rattle.history.specs.Writing.{past}

@@ -24,8 +24,7 @@ use Rattle.memory.proofs.Changes.{write-changes-only}
 use Rattle.memory.proofs.Fills.{fill-changes-only}
 use Rattle.memory.proofs.ForHistoryFilled.{fresh-lock, reset-value, power-value, filled-stays}
 use Rattle.memory.proofs.ForHistoryStaged.{stagedFor, none-staged-for, taking, unfinished, unfinished-short, finished}
-use Rattle.memory.proofs.ForHistoryStaged.{staged-short}
-use Rattle.memory.proofs.ForHistoryStaged.{write-seen, write-stays, unlocked-by}
+use Rattle.memory.proofs.ForHistoryStaged.{staged-short, write-seen, write-stays, unlocked-by}
 use Rattle.history.specs.Deeds.{Deed, opens, resets, puts, keeps, breaks, powers}
 use Rattle.history.specs.Lock.{lockBy}
 use Rattle.history.proofs.Agree.{stagedBy, storeBy}

@@ -15,10 +15,9 @@ use Rattle.hearing.specs.Meaning.{closes}
 use Rattle.hearing.specs.declared.rooms.Who.{Who}
 use Rattle.hearing.specs.declared.rooms.Heard.{Heard}
 use Rattle.hearing.specs.declared.meaning.Once.{Once}
-use Rattle.hearing.specs.declared.meaning.Once.the-variants.{QueryMissingShortAddress, QueryContentDtr}
+use Rattle.hearing.specs.declared.meaning.Once.the-variants.{QueryMissingShortAddress, QueryContentDtr, SetDtr, SetDtrs}
 use Rattle.hearing.specs.declared.meaning.Once.the-variants.{QueryDeviceGroups}
 use Rattle.hearing.specs.declared.meaning.Once.the-variants.{ReadMemoryLocation, WriteMemoryLocation, DirectWriteMemory}
-use Rattle.hearing.specs.declared.meaning.Once.the-variants.{SetDtr, SetDtrs}
 use Rattle.hearing.specs.declared.meaning.Twice.{Twice}
 use Rattle.hearing.specs.declared.meaning.Twice.the-variants.{ResetMemoryBank, SetShortAddress, EnableWriteMemory}
 use Rattle.hearing.specs.declared.meaning.Twice.the-variants.{AddToDeviceGroups, RemoveFromDeviceGroups}
@@ -27,8 +26,7 @@ use Rattle.hearing.specs.declared.meaning.Meaning.the-variants.{Foreign, NotObe
 use Rattle.unit.specs.Run.{Input, power-on, hears}
 use Rattle.history.specs.Pairs.{endsPair}
 use Rattle.history.specs.Deeds.{Context, Deed, opens, resets, puts, keeps, breaks, powers, executes, writeDeed}
-use Rattle.history.specs.Deeds.{onceDeed, pairDeed, deedBy, deedOf}
-use Rattle.history.specs.Deeds.{keeping, enabledBy}
+use Rattle.history.specs.Deeds.{onceDeed, pairDeed, deedBy, deedOf, keeping, enabledBy}
 use Rattle.history.specs.Context.{meant, heardIn, poweredIn, context, deedAfter}
 use Rattle.history.specs.Writing.{deedAt}
 use Rattle.history.proofs.Past.{at-old, at-new, last-or}

@@ -14,9 +14,9 @@ use Rattle.laws.proofs.Sides.{or-left, or-right}
 use Rattle.banks.specs.Map.{writable}
 use Rattle.banks.specs.declared.record.Record.{Record}
 use Rattle.banks.specs.Facts.{Fielded}
-use Rattle.hearing.specs.declared.rooms.Who.{Who}
 use Rattle.memory.proofs.ForHistoryStaged.{taking, unfinished, unfinished-short, taking-first, taking-next, Taking}
 use Rattle.memory.proofs.ForHistoryStaged.{begins, goes-on, misses, takings}
+use Rattle.hearing.specs.declared.rooms.Who.{Who}
 use Rattle.unit.specs.Run.{Input}
 use Rattle.history.specs.Deeds.{Deed, opens, resets, puts, keeps, breaks, powers}
 use Rattle.history.specs.Context.{deedAfter}

@@ -10,13 +10,13 @@ use Rattle.banks.specs.Lookup.{valueOf, lockByte}
 use Rattle.banks.specs.Facts.{Member, Fielded, Stands}
 use Rattle.banks.specs.declared.record.Record.{Record}
 use Rattle.banks.proofs.Members.{member-fields}
-use Rattle.hearing.specs.declared.rooms.Who.{Who}
 use Rattle.memory.specs.Staged.{noneStaged, unlocked}
 use Rattle.memory.specs.Rooms.{stagedHolds}
 use Rattle.memory.specs.declared.staged.Staged.{Staged}
 use Rattle.memory.specs.declared.filled.Filling.the-variants.{PowerOn}
 use Rattle.memory.proofs.ForHistoryFilled.{filled-stays}
 use Rattle.memory.proofs.ForHistoryStaged.{stagedFor, none-staged-for, unfinished-short, unlocked-by}
+use Rattle.hearing.specs.declared.rooms.Who.{Who}
 use Rattle.unit.specs.Run.{Input}
 use Rattle.unit.proofs.ForHistory.{Ready}
 use Rattle.history.specs.Deeds.{Deed}

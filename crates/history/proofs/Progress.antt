@@ -8,9 +8,9 @@ use lib.Dec.{eqb}
 use Rattle.laws.specs.Choice.{if_then_else_}
 use Rattle.banks.specs.Lookup.{valueOf}
 use Rattle.banks.specs.declared.record.Record.{Record}
-use Rattle.hearing.specs.declared.rooms.Who.{Who}
 use Rattle.memory.specs.Filled.{selects, fresh}
 use Rattle.memory.proofs.ForHistoryStaged.{taking, unfinished, finished}
+use Rattle.hearing.specs.declared.rooms.Who.{Who}
 use Rattle.unit.specs.Run.{Input}
 use Rattle.history.specs.Deeds.{Deed, opens, resets, puts, keeps, breaks, powers}
 use Rattle.history.specs.Context.{deedAfter}

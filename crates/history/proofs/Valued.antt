@@ -13,9 +13,9 @@ use borrow.Author.Tests.{eqb-true, eqb-false, ltb-true, ltb-false, eq-eqb, le-lt
 use Rattle.laws.proofs.Tests.{both, and-of, clash}
 use Rattle.banks.specs.declared.record.Record.{Record}
 use Rattle.banks.specs.Facts.{Fielded}
-use Rattle.hearing.specs.declared.rooms.Who.{Who}
 use Rattle.memory.specs.Filled.{selects, fresh}
 use Rattle.memory.proofs.ForHistoryStaged.{taking, finished}
+use Rattle.hearing.specs.declared.rooms.Who.{Who}
 use Rattle.unit.specs.Run.{Input, power-on, hears}
 use Rattle.history.specs.Deeds.{Deed, opens, resets, puts, keeps, breaks, powers}
 use Rattle.history.specs.Context.{deedAfter}

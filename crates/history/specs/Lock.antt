@@ -8,8 +8,8 @@ use Prim.Native.Nat.{ℕ}
 use lib.Dec.{eqb}
 use Rattle.laws.specs.Choice.{if_then_else_}
 use Rattle.banks.specs.declared.record.Record.{Record}
-use Rattle.hearing.specs.declared.rooms.Who.{Who}
 use Rattle.memory.specs.Filled.{selects}
+use Rattle.hearing.specs.declared.rooms.Who.{Who}
 use Rattle.unit.specs.Run.{Input}
 use Rattle.history.specs.Deeds.{Deed, opens, resets, puts, keeps, breaks, powers}
 use Rattle.history.specs.Context.{deedAfter}

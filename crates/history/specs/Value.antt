@@ -7,8 +7,8 @@ use Prim.Native.Nat.{ℕ, suc, _<_}
 use lib.ListN.{length}
 use Rattle.banks.specs.Lookup.{valueOf}
 use Rattle.banks.specs.declared.record.Record.{Record}
-use Rattle.hearing.specs.declared.rooms.Who.{Who}
 use Rattle.memory.specs.Filled.{fresh}
+use Rattle.hearing.specs.declared.rooms.Who.{Who}
 use Rattle.unit.specs.Run.{Input, power-on}
 use Rattle.history.specs.Writing.{past, WritingAt, ResetAt}
 

@@ -27,8 +27,7 @@ use Rattle.banks.proofs.Values.{value-put}
 use Rattle.memory.specs.Staged.{noneStaged, unlocked, bytesWith, stagedOf, wrote, writeOf}
 use Rattle.memory.specs.Latched.{padded}
 use Rattle.memory.specs.Rooms.{zeroFrom, stagedIn, stagedHolds}
-use Rattle.memory.specs.Promises.{Takes, bytesTo}
-use Rattle.memory.specs.Promises.{NoneStagedHolds, WriteKeepsRule, WriteTakes, WriteValue}
+use Rattle.memory.specs.Promises.{Takes, bytesTo, NoneStagedHolds, WriteKeepsRule, WriteTakes, WriteValue}
 use Rattle.memory.specs.declared.staged.Staged.{Staged}
 use Rattle.memory.specs.declared.staged.Wrote.{Wrote}
 use Rattle.memory.proofs.Zeros.{room-bytes, set-next, padded-zero}

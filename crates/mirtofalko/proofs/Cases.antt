@@ -4,18 +4,18 @@ use mathlib.Core.Path.{refl}
 use lib.Count.{trailingZeros}
 use Rattle.frames.specs.Values.{schemeAt}
 use Rattle.frames.specs.Write.{bytesFrame, eventFits, eventFrame, powerFrame, writeOf}
+use Rattle.words.specs.Values.{addressAt, fieldAt}
+use Rattle.words.specs.Word.{sixBytes, messageAt, messageOf}
+use Rattle.composing.specs.Compose.{orMissing, sourceFits, shippedOf, orBlank, lowestGroup, eventBy, composeOf}
+use Rattle.composing.specs.Compose.{powerFits, composePowerOf}
 use Rattle.banks.specs.Rules.{checkNumber}
+use Rattle.looks.specs.Look.{lookNumber, lookOf}
+use Rattle.numbers.proofs.Computing.{reading, checking, looking, meaning, storing, keeping, rooms}
 use Rattle.unit.proofs.Bench.{filling, acting, calling}
-use Rattle.mirtofalko.specs.StateBytes.{bytesOf, stateBytes, fourAt, stateOf, shapeHolds}
+use Rattle.packing.specs.StateBytes.{bytesOf, stateBytes, fourAt, stateOf, shapeHolds}
 use Rattle.mirtofalko.specs.Answers.{replyWord, lookWord}
 use Rattle.mirtofalko.specs.Face.{shapeNumber, startFace, frameFace, powerOnFace, runFace}
 use Rattle.mirtofalko.specs.Cases.{Cases}
-use Rattle.numbers.proofs.Computing.{reading, checking, looking, meaning, storing, keeping, rooms}
-use Rattle.words.specs.Values.{addressAt, fieldAt}
-use Rattle.composing.specs.Compose.{orMissing, sourceFits, shippedOf, orBlank, lowestGroup, eventBy, composeOf}
-use Rattle.composing.specs.Compose.{powerFits, composePowerOf}
-use Rattle.words.specs.Word.{sixBytes, messageAt, messageOf}
-use Rattle.looks.specs.Look.{lookNumber, lookOf}
 
 unfoldable words : Unit {0}
 unfolding lookNumber lookOf trailingZeros addressAt schemeAt fieldAt bytesFrame eventFits eventFrame powerFrame writeOf
@@ -32,7 +32,6 @@ pub cases : Cases
 unfolding reading checking looking meaning storing filling keeping rooms acting calling words faces checkNumber
 cases =
     record {
-      places = (refl, refl);
       check = (refl, refl);
       look = refl;
       look-none = refl;

@@ -7,9 +7,9 @@ use native.Mathlib.Omega.{arith}
 use lib.Dec.{ltb, leb, eqb}
 use borrow.Author.Tests.{ltb-true, leb-true, le-leb, eqb-true, not-true}
 use Rattle.laws.proofs.Tests.{both, if-by, clash}
-use Rattle.mirtofalko.specs.Answers.{outOfRange, source, fieldsHeld, Held}
 use Rattle.composing.specs.Compose.{orMissing, sourceFits, composeOf, powerFits, composePowerOf}
 use Rattle.composing.specs.declared.source.Source.{Source}
+use Rattle.mirtofalko.specs.Answers.{outOfRange, source, fieldsHeld, Held}
 
 below : (x limit : ℕ) → limit ≤ 255 → orMissing x limit ≡ true → x ≤ 255
 unfolding orMissing

@@ -11,7 +11,7 @@ use Rattle.laws.specs.Outcome.{Outcome, Gives}
 use Rattle.laws.proofs.Joined.{joined-none, joined-some}
 use Rattle.banks.specs.Rules.{checkTests, checkNumber}
 use Rattle.rooms.specs.declared.reply.Stepped.{Stepped}
-use Rattle.mirtofalko.specs.StateBytes.{stateBytes, shapeHolds}
+use Rattle.packing.specs.StateBytes.{stateBytes, shapeHolds}
 use Rattle.mirtofalko.specs.Answers.{refusal, replyWord}
 use Rattle.mirtofalko.specs.Face.{facedBy, shapeNumber, onBytes, Faces}
 

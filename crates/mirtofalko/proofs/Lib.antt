@@ -1,8 +1,4 @@
-pub mod Spelled
-pub mod Copied
-pub mod Packed
 pub mod Composed
-pub mod Round
 pub mod Faced
 pub mod Words
 pub mod Numbers

@@ -15,15 +15,16 @@ use Rattle.hearing.specs.declared.rooms.Heard.{Heard}
 use Rattle.rooms.specs.State.{poweredOn, zeroState}
 use Rattle.rooms.specs.declared.state.State.{State}
 use Rattle.rooms.specs.declared.reply.Stepped.{Stepped}
+use Rattle.numbers.specs.Numbers.{stepNumber, powerNumber, startNumber}
+use Rattle.numbers.specs.Promises.{GivenBy}
 use Rattle.unit.specs.Step.{stepOf, powerOnOf}
 use Rattle.unit.specs.Promises.{numberOf, Refuses as UnitRefuses}
 use Rattle.unit.proofs.Numbers.{calls-refused, calls-reply}
-use Rattle.mirtofalko.specs.StateBytes.{bytesOf, stateBytes, stateOf, shapeHolds}
+use Rattle.packing.specs.StateBytes.{bytesOf, stateBytes, stateOf, shapeHolds}
+use Rattle.packing.specs.Promises.{Bytes}
+use Rattle.packing.proofs.Round.{bytes-back}
 use Rattle.mirtofalko.specs.Face.{facedBy, shapeNumber, onBytes, frameFace, powerOnFace, startFace}
-use Rattle.mirtofalko.specs.Promises.{Bytes, frameTests, powerOnTests, FacesNumbered, Refuses, FacesRefused}
-use Rattle.mirtofalko.proofs.Round.{bytes-back}
-use Rattle.numbers.specs.Numbers.{stepNumber, powerNumber, startNumber}
-use Rattle.numbers.specs.Promises.{GivenBy}
+use Rattle.mirtofalko.specs.Promises.{frameTests, powerOnTests, FacesNumbered, Refuses, FacesRefused}
 
 -- a test that fails shuts off the tests behind it
 pub shut-off : (ts us : List Test) (n : ℕ) →

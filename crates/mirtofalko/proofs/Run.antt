@@ -18,6 +18,7 @@ use Rattle.rooms.specs.Rules.{addressHolds, stateHolds}
 use Rattle.rooms.specs.Reply.{refusing}
 use Rattle.rooms.specs.declared.state.State.{State}
 use Rattle.rooms.specs.declared.reply.Stepped.{Stepped}
+use Rattle.numbers.specs.Numbers.{stepNumber, powerNumber}
 use Rattle.unit.specs.Step.{stepOf, powerOnOf}
 use Rattle.unit.specs.Run.{Input, power-on, hears, Run, inputOf, outputOf, runFrom}
 use Rattle.tracing.specs.Entry.{isBroken}
@@ -25,11 +26,10 @@ use Rattle.tracing.specs.Trace.{inputsOf, broken, Traced, tracedOf}
 use Rattle.tracing.specs.Run.{Runs}
 use Rattle.tracing.specs.declared.entry.Entry.{Entry}
 use Rattle.tracing.specs.declared.records.Ran.{Ran}
-use Rattle.mirtofalko.specs.StateBytes.{stateBytes, stateOf, shapeHolds}
+use Rattle.packing.specs.StateBytes.{stateBytes, stateOf, shapeHolds}
 use Rattle.mirtofalko.specs.Face.{shapeNumber, refusedRun, runFace, RunFaces}
 use Rattle.mirtofalko.proofs.Faced.{shape-first, shape-then}
 use Rattle.mirtofalko.proofs.Numbers.{shut-off}
-use Rattle.numbers.specs.Numbers.{stepNumber, powerNumber}
 
 -- it is a number
 not-none : (map store : List ℕ) (kept n : ℕ) → checkNumber map store kept ≡ n → shapeNumber map store kept ≡ 0 → ⊥

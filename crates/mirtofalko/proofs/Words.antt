@@ -6,11 +6,11 @@ use mathlib.Core.Bool.{Bool, true, false}
 use native.Mathlib.Omega.{arith}
 use Rattle.laws.specs.Bits.{bits}
 use Rattle.laws.proofs.Bits.{bits-is}
+use Rattle.looks.specs.declared.looked.Looked.{Looked}
 use Rattle.rooms.specs.declared.reply.Reply.{Reply}
-use Rattle.mirtofalko.specs.StateBytes.{flag}
+use Rattle.packing.specs.StateBytes.{flag}
 use Rattle.mirtofalko.specs.Answers.{replyWord, lookWord}
 use Rattle.mirtofalko.specs.Promises.{ReplyBack, RepliesBack, LookBack, LooksBack}
-use Rattle.looks.specs.declared.looked.Looked.{Looked}
 
 -- x | y << 8 | z << 16
 module _ (w x y z : ℕ) (e : w ≡ x + y * 2 ^ 8 + z * 2 ^ 16) (p : x < 2 ^ 8) (q : y < 2 ^ 8) (r : z < 2 ^ 16) where

@@ -10,14 +10,14 @@ use Rattle.frames.specs.Read.{readOf}
 use Rattle.frames.specs.Write.{writeOf}
 use Rattle.frames.specs.declared.message.Reading.{Reading}
 use Rattle.frames.specs.declared.message.Writing.{Writing}
-use Rattle.banks.specs.Rules.{checkNumber}
-use Rattle.rooms.specs.declared.reply.Reply.{Reply}
-use Rattle.mirtofalko.specs.StateBytes.{flag}
 use Rattle.words.specs.Word.{wordOf, messageOf}
 use Rattle.composing.specs.Compose.{composeOf, composePowerOf}
 use Rattle.composing.specs.declared.source.Source.{Source}
+use Rattle.banks.specs.Rules.{checkNumber}
 use Rattle.looks.specs.Look.{lookOf}
 use Rattle.looks.specs.declared.looked.Looked.{Looked}
+use Rattle.rooms.specs.declared.reply.Reply.{Reply}
+use Rattle.packing.specs.StateBytes.{flag}
 
 -- a refusal: the number, and no answer
 abbrev pub refusal : ℕ → Reply

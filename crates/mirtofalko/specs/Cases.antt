@@ -2,14 +2,11 @@
 -- Assumes nothing.
 use Prim.Native.Nat.{ℕ, _+_, _^_}
 use mathlib.Core.Path.{_≡_}
-use mathlib.Core.Bool.{true}
 use mathlib.Core.List.{List, [], _∷_, _++_}
 use lib.ListN.{set, replicate}
 use Rattle.hearing.specs.declared.rooms.Heard.{Heard}
-use Rattle.rooms.specs.declared.state.State.{State}
 use Rattle.unit.specs.Bench.{benchMap, benchStore, benchImage}
 use Rattle.tracing.specs.declared.entry.Entry.{Entry}
-use Rattle.mirtofalko.specs.StateBytes.{stateBytes, stateOf}
 use Rattle.mirtofalko.specs.Answers.{replyWord}
 use Rattle.mirtofalko.specs.Answers.{checkAnswer, lookAnswer, readAnswer, writeAnswer, eventAnswer, powerAnswer}
 use Rattle.mirtofalko.specs.Face.{Faced, startFace, frameFace, powerOnFace, runFace}
@@ -53,38 +50,6 @@ stagedBytes =
     0x05 ∷ 0x00 ∷ 0x00 ∷ 0x00 ∷ 0x00 ∷ 0x05 ∷ 0x02 ∷ 0x00 ∷ replicate 9 0
     ++ 0x01 ∷ 0x02 ∷ 0x02 ∷ 0x03 ∷ 0xAA ∷ 0xBB ∷ replicate 73 0
 
--- each byte of a state in its place: byte number n is n, and each flag is 1
-abbrev tableBytes : List ℕ
-tableBytes =
-    0 ∷ 1 ∷ 2 ∷ 3 ∷ 4 ∷ 5 ∷ 6 ∷ 7 ∷ 1 ∷ 9 ∷ 10 ∷ 11 ∷ 12 ∷ 13 ∷ 14 ∷ 15 ∷ 16 ∷ 1 ∷ 18 ∷ 19 ∷ 20
-    ∷ 21 ∷ 22 ∷ 23 ∷ 24 ∷ 25 ∷ 26 ∷ 27 ∷ 28 ∷ 1 ∷ 30 ∷ 31 ∷ 32 ∷ 33 ∷ 34 ∷ 35 ∷ 36 ∷ 37 ∷ 38 ∷ 39 ∷ replicate 56 0
-
-abbrev tableState : State
-tableState =
-    record {
-      who = record { address = 0; groups = 0x01020304 };
-      registers = record { dtr0 = 5; dtr1 = 6; dtr2 = 7 };
-      waiting = record { held = true; frame = 0x090A0B0C; clock = 0x0D0E0F10 };
-      door =
-          record {
-            enabled = true;
-            staged =
-                record {
-                  count = 18;
-                  bank = 19;
-                  first = 20;
-                  bytes = 21 ∷ 22 ∷ 23 ∷ 24 ∷ 25 ∷ 26 ∷ 27 ∷ 28 ∷ [];
-                };
-          };
-      latch =
-          record {
-            held = true;
-            bank = 30;
-            first = 31;
-            bytes = 32 ∷ 33 ∷ 34 ∷ 35 ∷ 36 ∷ 37 ∷ 38 ∷ 39 ∷ [];
-          };
-    }
-
 -- a start's bytes with another byte at one place
 abbrev startedWith : ℕ → ℕ → List ℕ
 startedWith place byte = set (0x05 ∷ replicate 95 0) place byte
@@ -96,8 +61,6 @@ abbrev powerOnWith : ℕ → ℕ → ℕ
 powerOnWith place byte = replyWord (powerOnFace benchMap benchStore benchImage (startedWith place byte) .reply)
 
 pub record Cases : Type 0 where
-  -- the places of the state's bytes
-  pub places : (stateBytes tableState ≡ tableBytes) × (stateOf tableBytes ≡ tableState)
   -- 10: an image that is not as long as the store
   pub check : (checkAnswer benchMap benchStore benchImage ≡ 0) × (checkAnswer benchMap benchStore [] ≡ 10)
   -- the value at bank 2, location 0x03 has 4 bytes, from store offset 2 on; 14: none begins at 0x04

@@ -14,7 +14,7 @@ use Rattle.rooms.specs.declared.reply.Stepped.{Stepped}
 use Rattle.unit.specs.Step.{stepOf, powerOnOf, startOf}
 use Rattle.tracing.specs.Trace.{broken, Traced, tracedOf}
 use Rattle.tracing.specs.declared.entry.Entry.{Entry}
-use Rattle.mirtofalko.specs.StateBytes.{stateBytes, stateOf, shapeHolds}
+use Rattle.packing.specs.StateBytes.{stateBytes, stateOf, shapeHolds}
 use Rattle.mirtofalko.specs.Answers.{refusal, replyWord}
 
 -- what a call of the unit comes to: its reply, the state's bytes, the store

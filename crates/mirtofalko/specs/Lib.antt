@@ -1,4 +1,3 @@
-pub mod StateBytes
 pub mod Answers
 pub mod Face
 pub mod Promises

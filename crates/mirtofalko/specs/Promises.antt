@@ -1,51 +1,27 @@
--- The promises about the definitions. They are proved in proofs/: Round, Words, Numbers and Settled.
+-- The promises about the definitions. They are proved in proofs/: Words, Numbers and Settled.
 -- Assumes nothing.
 use mathlib.Core.Path.{_≡_}
 use mathlib.Core.Bool.{Bool, true, false, _&&_}
 use mathlib.Core.List.{List, [], _∷_, _++_}
 use Prim.Native.Nat.{ℕ, _<_, _^_}
 use lib.Dec.{ltb}
-use lib.ListN.{length, getD, replicate}
+use lib.ListN.{length, replicate}
 use Rattle.laws.specs.Bits.{bits}
 use Rattle.laws.specs.Numbers.{Test, test}
 use Rattle.laws.specs.Settled.{Settles}
 use Rattle.banks.specs.Map.{recordsOf}
 use Rattle.banks.specs.Rules.{checkTests}
+use Rattle.looks.specs.declared.looked.Looked.{Looked}
 use Rattle.rooms.specs.Rules.{stateHolds}
 use Rattle.rooms.specs.declared.reply.Reply.{Reply}
-use Rattle.rooms.specs.declared.state.State.{State}
+use Rattle.numbers.specs.Numbers.{startTests}
+use Rattle.numbers.specs.Promises.{GivenBy}
 use Rattle.tracing.specs.declared.entry.Entry.{Entry}
-use Rattle.mirtofalko.specs.StateBytes.{flag, stateBytes, stateOf, shapeHolds}
+use Rattle.packing.specs.StateBytes.{flag, stateOf, shapeHolds}
+use Rattle.packing.specs.Promises.{Bytes}
 use Rattle.mirtofalko.specs.Answers.{replyWord, lookWord}
 use Rattle.mirtofalko.specs.Answers.{checkAnswer, lookAnswer, readAnswer, writeAnswer, eventAnswer, powerAnswer}
 use Rattle.mirtofalko.specs.Face.{Faced, frameFace, powerOnFace, startFace, Faces, RunFaced, runFace, RunFaces}
-use Rattle.numbers.specs.Numbers.{startTests}
-use Rattle.numbers.specs.Promises.{GivenBy}
-use Rattle.looks.specs.declared.looked.Looked.{Looked}
-
--- ---- a state as 96 bytes
-
--- what the types of a state can hold: the groups, the waiting frame and its clock have 32 bits, and there are eight
--- staged and eight latched bytes
-pub record StateHeld (s : State) : Type 0 where
-  pub groups : s .who .groups < 2 ^ 32
-  pub frame : s .waiting .frame < 2 ^ 32
-  pub clock : s .waiting .clock < 2 ^ 32
-  pub staged : length (s .door .staged .bytes) ≡ 8
-  pub latched : length (s .latch .bytes) ≡ 8
-
--- every state that the types can hold comes back from its bytes
-abbrev pub StateBack : Type 0
-StateBack = (s : State) → StateHeld s → (stateOf (stateBytes s) ≡ s) × (shapeHolds (stateBytes s) ≡ true)
-
--- what an array of 96 bytes can hold
-pub record Bytes (b : List ℕ) : Type 0 where
-  pub long : length b ≡ 96
-  pub small : (i : ℕ) → getD b i 0 < 256
-
--- 96 bytes that are a state's come back from that state
-abbrev pub BytesBack : Type 0
-BytesBack = (b : List ℕ) → Bytes b → shapeHolds b ≡ true → stateBytes (stateOf b) ≡ b
 
 -- ---- an answer as one number
 

@@ -2,9 +2,9 @@
 ghost use mathlib.Core.Path.{_≡_};
 ghost use Rattle.frames.specs.Values.{writingWord};
 ghost use Rattle.mirtofalko.specs.Answers.{refusal, replyWord, lookWord};
-use crate::state_bytes::flag;
 use frames::Writing;
 use looks::Looked;
+use packing::flag;
 use rooms::Reply;
 
 pub fn reply_word(reply: Reply) -> u32

@@ -1,5 +1,4 @@
 // The face to C: the public calls on numbers and byte slices, and a state as 96 bytes.
-mod state_bytes; // a state as 96 bytes, and back
 mod answers; // an answer as one number
 mod unit_calls; // the calls of the unit
 mod frame_calls; // the calls on frames alone

@@ -10,11 +10,11 @@ ghost use Rattle.mirtofalko.specs.Face.{shapeNumber, startFace, frameFac
 use crate::answers::look_word;
 use crate::answers::refusal_word;
 use crate::answers::reply_word;
-use crate::state_bytes::pack;
-use crate::state_bytes::shape_holds;
-use crate::state_bytes::unpack;
 use hearing::Heard;
 use hearing::Who;
+use packing::pack;
+use packing::shape_holds;
+use packing::unpack;
 use rooms::State;
 
 // The number of map, store and reset image: 7 to 11, or 0.

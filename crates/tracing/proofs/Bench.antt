@@ -10,7 +10,9 @@ use borrow.Author.Tests.{eq-eqb}
 use lib.ListN.{length}
 use Rattle.laws.specs.Choice.{if_then_else_}
 use Rattle.laws.specs.Lists.{some}
+use Rattle.composing.specs.Bench.{Case, sheet as framesSheet}
 use Rattle.banks.specs.Rules.{checkNumber}
+use Rattle.numbers.proofs.Numbers.{tests-in-order}
 use Rattle.unit.specs.Run.{Input, runOf}
 use Rattle.unit.specs.Bench.{benchMap, benchStore, benchImage, benchWho, benchRun, p11, p12, late, overrun}
 use Rattle.unit.specs.Bench.{Line, says, Runs, Hold}
@@ -20,8 +22,6 @@ use Rattle.tracing.specs.Entry.{entryOf, entryAt, wholeRecords, isBroken
 use Rattle.tracing.specs.Trace.{inputsOf, broken, tracedOf, whoOf, fileNumber, closed, traceOf}
 use Rattle.tracing.specs.Bench.{benchAdr, p11Records, benchTrace, BenchTraces, BenchFiles}
 use Rattle.tracing.proofs.Starts.{files-numbered}
-use Rattle.numbers.proofs.Numbers.{tests-in-order}
-use Rattle.composing.specs.Bench.{Case, sheet as framesSheet}
 
 -- the runs' lines stand behind the frames'
 runs-lines : (cases : List Case) (lines : List Line) → Hold (map says cases ++ lines) → Hold lines

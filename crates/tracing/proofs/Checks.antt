@@ -20,6 +20,9 @@ use Rattle.rooms.specs.Rules.{stateHolds}
 use Rattle.rooms.specs.Reply.{refusing}
 use Rattle.rooms.specs.declared.state.State.{State}
 use Rattle.rooms.specs.declared.reply.Stepped.{Stepped}
+use Rattle.numbers.specs.Promises.{InOrder}
+use Rattle.numbers.specs.Numbers.{powerNumber, stepNumber}
+use Rattle.numbers.proofs.Numbers.{tests-in-order}
 use Rattle.unit.specs.Step.{frameOf, powerOf, stepOf, powerOnOf}
 use Rattle.unit.proofs.Numbers.{calls-accepted, calls-refused}
 use Rattle.unit.proofs.Accepted.{accepted-again}
@@ -27,9 +30,6 @@ use Rattle.tracing.specs.Entry.{isBroken, isFramed}
 use Rattle.tracing.specs.Run.{turnOf}
 use Rattle.tracing.specs.Promises.{OneCheck}
 use Rattle.tracing.specs.declared.entry.Entry.{Entry}
-use Rattle.numbers.specs.Promises.{InOrder}
-use Rattle.numbers.specs.Numbers.{powerNumber, stepNumber}
-use Rattle.numbers.proofs.Numbers.{tests-in-order}
 
 module _ (map store : List ℕ) (kept : ℕ) (s : State) where
   -- 7 to 12 are passed, so 7 to 11 are

@@ -21,9 +21,9 @@ use Rattle.banks.specs.Map.{recordsOf}
 use Rattle.banks.specs.Rules.{sizeHolds, fieldsHold, rising, lengthsHold, placesHold, checkTests, checkNumber}
 use Rattle.hearing.specs.declared.rooms.Who.{Who}
 use Rattle.rooms.specs.Rules.{addressHolds}
+use Rattle.numbers.specs.Numbers.{startNumber}
 use Rattle.tracing.specs.Trace.{whoOf, adrTests, fileTests, fileNumber, traceOf}
 use Rattle.tracing.specs.Promises.{FilesNumbered, FilesSettled, OneByteMore}
-use Rattle.numbers.specs.Numbers.{startNumber}
 
 pub files-settled : FilesSettled
 files-settled map store kept adr = settles (fileNumber map store kept adr)

@@ -18,6 +18,7 @@ use Rattle.laws.proofs.Tests.{if-lt, both, denied, not-denied}
 use Rattle.rooms.specs.Reply.{refusing}
 use Rattle.rooms.specs.declared.state.State.{State}
 use Rattle.rooms.specs.declared.reply.Stepped.{Stepped}
+use Rattle.numbers.specs.Numbers.{powerNumber}
 use Rattle.unit.specs.Run.{inputOf, outputOf}
 use Rattle.tracing.specs.Entry.{entryAt, entries, isBroken, Reads}
 use Rattle.tracing.specs.Trace.{Traced, tracedOf}
@@ -27,7 +28,6 @@ use Rattle.tracing.specs.declared.records.Ran.{Ran}
 use Rattle.tracing.proofs.Checks.{one-check}
 use Rattle.tracing.proofs.Continued.{continued-more, continued-none, continued-ended}
 use Rattle.tracing.proofs.Written.{front-put, back-put}
-use Rattle.numbers.specs.Numbers.{powerNumber}
 
 -- a run of one record
 turn-traced : (map image store : List ℕ) (s : State) (e : Entry)

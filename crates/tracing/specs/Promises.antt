@@ -14,6 +14,8 @@ use Rattle.laws.specs.Settled.{Settles}
 use Rattle.banks.specs.Rules.{checkNumber}
 use Rattle.rooms.specs.Rules.{addressHolds}
 use Rattle.rooms.specs.declared.state.State.{State}
+use Rattle.numbers.specs.Numbers.{powerNumber, startNumber}
+use Rattle.numbers.specs.Promises.{GivenBy}
 use Rattle.unit.specs.Step.{startOf}
 use Rattle.tracing.specs.Entry.{entries, wholeRecords, isBroken, isFramed, Reads}
 use Rattle.tracing.specs.Trace.{Traced, tracedOf, broken, whoOf, fileTests, fileNumber, closed, traceOf}
@@ -21,8 +23,6 @@ use Rattle.tracing.specs.Run.{turnOf, continued, Runs}
 use Rattle.tracing.specs.Slices.{Keeps}
 use Rattle.tracing.specs.declared.entry.Entry.{Entry}
 use Rattle.tracing.specs.declared.records.Ran.{Ran}
-use Rattle.numbers.specs.Numbers.{powerNumber, startNumber}
-use Rattle.numbers.specs.Promises.{GivenBy}
 
 -- ---- one after the other
 

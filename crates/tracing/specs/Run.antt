@@ -11,12 +11,12 @@ use Rattle.laws.specs.Outcome.{Outcome, leaves}
 use Rattle.rooms.specs.Reply.{refusing}
 use Rattle.rooms.specs.declared.state.State.{State}
 use Rattle.rooms.specs.declared.reply.Stepped.{Stepped}
+use Rattle.numbers.specs.Numbers.{powerNumber}
 use Rattle.unit.specs.Step.{stepOf, powerOnOf}
 use Rattle.tracing.specs.Entry.{entryAt}
 use Rattle.tracing.specs.Trace.{Traced, tracedOf}
 use Rattle.tracing.specs.declared.entry.Entry.{Entry}
 use Rattle.tracing.specs.declared.records.Ran.{Ran}
-use Rattle.numbers.specs.Numbers.{powerNumber}
 
 -- a record is handed to its public call; a broken one gets 13, and state and store stay
 unfoldable pub turnOf : List ℕ → List ℕ → List ℕ → State → Entry → Outcome Stepped

@@ -15,6 +15,7 @@ use Rattle.memory.specs.Promises.{ChangesOnly}
 use Rattle.rooms.specs.State.{zeroState}
 use Rattle.rooms.specs.declared.state.State.{State}
 use Rattle.rooms.specs.declared.reply.Stepped.{Stepped}
+use Rattle.numbers.specs.Numbers.{powerNumber}
 use Rattle.unit.specs.Step.{startOf, powerOnOf, stepOf, unless}
 use Rattle.unit.specs.Keeping.{CallsKeepStore, OneValue, OneValueChanges, CallsPowerOn}
 use Rattle.unit.specs.Keeping.{PassesAgain, CallsAcceptedAgain, AllAccepted, isInput, RunAccepted}
@@ -23,7 +24,6 @@ use Rattle.unit.specs.Promises.{numberOf}
 use Rattle.unit.proofs.Numbers.{calls-accepted, calls-reply}
 use Rattle.unit.proofs.Sound.{start-sound, power-sound, step-sound, sound-power, sound-step}
 use Rattle.unit.proofs.Changes.{unchanged, changes, frame-sound, powered-changes, powered-sound, powers-on}
-use Rattle.numbers.specs.Numbers.{powerNumber}
 
 -- a refused call leaves the store
 unless-store : (P : List ℕ → Type 0) (n : ℕ) (s : State) (store : List ℕ) (o : Outcome Stepped)

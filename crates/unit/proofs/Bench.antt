@@ -2,16 +2,16 @@
 -- Assumes nothing.
 use mathlib.Core.Path.{refl}
 use mathlib.Core.List.{List, [], _∷_, _++_, map}
+use Rattle.composing.specs.Bench.{Case, AllHold, sheet as framesSheet}
+use Rattle.composing.proofs.Bench.{sheet-holds as frames-hold}
 use Rattle.memory.specs.Filled.{selects, chosen, fresh, filledOf}
 use Rattle.rooms.specs.Due.{shortDue, writeDue, readDue, onceDue, pairDue, dueBy, dueOf}
 use Rattle.rooms.specs.Reply.{quiet, answering, refusing}
+use Rattle.numbers.specs.Numbers.{stepNumber, powerNumber, startNumber}
+use Rattle.numbers.proofs.Computing.{reading, checking, looking, meaning, storing, keeping, rooms}
 use Rattle.unit.specs.Step.{hearing, raised, written, readBy, done, frameOf, powerOf, stepOf, powerOnOf, startOf}
 use Rattle.unit.specs.Run.{inputOf, outputOf, runOf}
 use Rattle.unit.specs.Bench.{Line, says, Hold, p11, p12, late, overrun, SheetHolds}
-use Rattle.numbers.specs.Numbers.{stepNumber, powerNumber, startNumber}
-use Rattle.numbers.proofs.Computing.{reading, checking, looking, meaning, storing, keeping, rooms}
-use Rattle.composing.specs.Bench.{Case, AllHold, sheet as framesSheet}
-use Rattle.composing.proofs.Bench.{sheet-holds as frames-hold}
 
 -- what the unit computes with, above the floors below
 unfoldable pub filling : Unit {0}

@@ -48,9 +48,9 @@ use Rattle.rooms.specs.declared.state.Door.{Door}
 use Rattle.rooms.specs.declared.state.State.{State}
 use Rattle.rooms.specs.declared.reply.Stepped.{Stepped}
 use Rattle.rooms.specs.declared.due.Due.the-variants.{Nothing, Becomes, Answers, Reads}
+use Rattle.numbers.specs.Numbers.{stepTests, stepNumber, powerTests, powerNumber, startTests, startNumber}
 use Rattle.unit.specs.Step.{hearing, raised, written, readBy, done, frameOf, powerOf, stepOf, powerOnOf, startOf}
 use Rattle.unit.specs.Step.{unless}
-use Rattle.numbers.specs.Numbers.{stepTests, stepNumber, powerTests, powerNumber, startTests, startNumber}
 
 -- ---- an accepted call
 

@@ -18,9 +18,9 @@ use Rattle.banks.proofs.Standing.{check-stands}
 use Rattle.hearing.specs.declared.rooms.Who.{Who}
 use Rattle.rooms.specs.Rules.{addressHolds, stateHolds}
 use Rattle.rooms.specs.declared.state.State.{State}
-use Rattle.unit.proofs.Keeping.{RulesHold, rules-hold, state-holds}
 use Rattle.numbers.specs.Numbers.{startNumber, powerNumber, stepNumber}
 use Rattle.numbers.proofs.Numbers.{startsBehind, powersBehind, stepsBehind}
+use Rattle.unit.proofs.Keeping.{RulesHold, rules-hold, state-holds}
 
 first-none : (ts us : List Test) → firstFailing (ts ++ us) ≡ 0 → firstFailing ts ≡ 0
 first-none ts us e = go (firstFailing ts) refl

@@ -6,12 +6,12 @@ use mathlib.Core.Path.{_≡_}
 use mathlib.Core.Bool.{true}
 use mathlib.Core.List.{List, [], _∷_, _++_, map}
 use Rattle.laws.specs.Outcome.{Outcome}
+use Rattle.composing.specs.Bench.{Case, CaseHolds, sheet as framesSheet}
 use Rattle.hearing.specs.Pairs.{passed}
 use Rattle.hearing.specs.declared.rooms.Who.{Who}
 use Rattle.rooms.specs.declared.reply.Stepped.{Stepped}
 use Rattle.unit.specs.Step.{startOf}
 use Rattle.unit.specs.Run.{Input, hears, Run, runOf}
-use Rattle.composing.specs.Bench.{Case, CaseHolds, sheet as framesSheet}
 
 -- map, store, image; address 5, no groups
 abbrev pub benchMap : List ℕ

@@ -23,10 +23,10 @@ use Rattle.rooms.specs.Promises.{StatePowered}
 use Rattle.rooms.specs.declared.state.State.{State}
 use Rattle.rooms.specs.declared.reply.Stepped.{Stepped}
 use Rattle.rooms.specs.declared.due.Due.the-variants.{Resets}
+use Rattle.numbers.specs.Numbers.{startNumber, powerNumber, stepNumber}
 use Rattle.unit.specs.Step.{startOf, powerOnOf, powerOf, stepOf}
 use Rattle.unit.specs.Run.{Input, power-on, hears, inputOf}
 use Rattle.unit.specs.Promises.{numberOf}
-use Rattle.numbers.specs.Numbers.{startNumber, powerNumber, stepNumber}
 
 -- ---- the store. `ChangesOnly` is memory's: every value stays but those named, and so do each value that is not
 -- writable, each byte under no record, and how long the store is

@@ -14,8 +14,8 @@ use Rattle.hearing.specs.declared.rooms.Heard.{Heard}
 use Rattle.rooms.specs.State.{zeroState}
 use Rattle.rooms.specs.declared.state.State.{State}
 use Rattle.rooms.specs.declared.reply.Stepped.{Stepped}
-use Rattle.unit.specs.Step.{startOf, powerOnOf, powerOf, stepOf, frameOf}
 use Rattle.numbers.specs.Numbers.{startNumber, powerNumber, stepNumber}
+use Rattle.unit.specs.Step.{startOf, powerOnOf, powerOf, stepOf, frameOf}
 
 -- two results that meet one promise have the same answer and leave the same store
 abbrev pub SettlesBoth : Outcome Stepped → Type 0

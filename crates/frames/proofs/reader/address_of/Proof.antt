@@ -1,10 +1,10 @@
 -- `frames::reader::address_of` meets its contract.
 -- Assumes nothing.
 use borrow.Author.Needs.{needs}
-use Rattle.frames.proofs.reader.address_of.Statement.{statement}
-use Rattle.frames.specs.Read.{addressOf}
 use Rattle.laws.specs.Bits.{bits}
 use Rattle.laws.proofs.Tests.{tests}
+use Rattle.frames.proofs.reader.address_of.Statement.{statement}
+use Rattle.frames.specs.Read.{addressOf}
 use Rattle.frames.proofs.reader.address_of.Tie as tie
 
 pub address-of-spec : {M : Type 1} → statement M

@@ -1,9 +1,9 @@
 -- `frames::reader::field_of` meets its contract.
 -- Assumes nothing.
 use borrow.Author.Needs.{needs}
+use Rattle.laws.proofs.Tests.{tests}
 use Rattle.frames.proofs.reader.field_of.Statement.{statement}
 use Rattle.frames.specs.Read.{fieldOf}
-use Rattle.laws.proofs.Tests.{tests}
 use Rattle.frames.proofs.reader.field_of.Tie as tie
 
 pub field-of-spec : {M : Type 1} → statement M

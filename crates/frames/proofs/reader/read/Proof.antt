@@ -1,9 +1,9 @@
 -- `frames::reader::read` meets its contract.
 -- Assumes nothing.
 use borrow.Author.Needs.{needs}
-use Rattle.frames.specs.Read.{readOf}
 use Rattle.laws.specs.Bits.{bits}
 use Rattle.laws.proofs.Tests.{tests}
+use Rattle.frames.specs.Read.{readOf}
 use Rattle.frames.proofs.reader.read.Statement.{statement}
 use Rattle.frames.proofs.reader.read.Tie as tie
 

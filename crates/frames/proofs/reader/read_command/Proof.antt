@@ -1,8 +1,8 @@
 -- `frames::reader::read_command` meets its contract.
 -- Assumes nothing.
 use borrow.Author.Needs.{needs}
-use Rattle.frames.specs.Read.{commandOf}
 use Rattle.laws.specs.Bits.{bits}
+use Rattle.frames.specs.Read.{commandOf}
 use native.Mathlib.Nat.{div-one}
 use Rattle.frames.proofs.reader.read_command.Statement.{statement}
 use Rattle.frames.proofs.reader.read_command.Tie as tie

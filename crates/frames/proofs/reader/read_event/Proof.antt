@@ -1,8 +1,8 @@
 -- `frames::reader::read_event` meets its contract.
 -- Assumes nothing.
 use borrow.Author.Needs.{needs}
-use Rattle.frames.specs.Read.{eventOf}
 use Rattle.laws.specs.Bits.{bits}
+use Rattle.frames.specs.Read.{eventOf}
 use native.Mathlib.Nat.{div-one}
 use Rattle.frames.proofs.reader.read_event.Statement.{statement}
 use Rattle.frames.proofs.reader.read_event.Tie as tie

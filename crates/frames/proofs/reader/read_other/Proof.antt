@@ -1,9 +1,9 @@
 -- `frames::reader::read_other` meets its contract.
 -- Assumes nothing.
 use borrow.Author.Needs.{needs}
-use Rattle.frames.specs.Read.{otherOf}
 use Rattle.laws.specs.Bits.{bits}
 use Rattle.laws.proofs.Tests.{tests}
+use Rattle.frames.specs.Read.{otherOf}
 use Rattle.frames.proofs.reader.read_other.Statement.{statement}
 use Rattle.frames.proofs.reader.read_other.Tie as tie
 

@@ -1,8 +1,8 @@
 -- `frames::reader::read_power` meets its contract.
 -- Assumes nothing.
 use borrow.Author.Needs.{needs}
-use Rattle.frames.specs.Read.{powerOf}
 use Rattle.laws.specs.Bits.{bits}
+use Rattle.frames.specs.Read.{powerOf}
 use native.Mathlib.Nat.{div-one}
 use Rattle.frames.proofs.reader.read_power.Statement.{statement}
 use Rattle.frames.proofs.reader.read_power.Tie as tie

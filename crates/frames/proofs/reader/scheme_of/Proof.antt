@@ -1,9 +1,9 @@
 -- `frames::reader::scheme_of` meets its contract.
 -- Assumes nothing.
 use borrow.Author.Needs.{needs}
+use Rattle.laws.proofs.Tests.{tests}
 use Rattle.frames.proofs.reader.scheme_of.Statement.{statement}
 use Rattle.frames.specs.Read.{schemeOf}
-use Rattle.laws.proofs.Tests.{tests}
 use Rattle.frames.proofs.reader.scheme_of.Tie as tie
 
 pub scheme-of-spec : {M : Type 1} → statement M

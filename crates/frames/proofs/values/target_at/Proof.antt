@@ -1,9 +1,9 @@
 -- `frames::values::target_at` meets its contract.
 -- Assumes nothing.
 use borrow.Author.Needs.{needs}
+use Rattle.laws.proofs.Tests.{tests}
 use Rattle.frames.proofs.values.target_at.Statement.{statement}
 use Rattle.frames.specs.Values.{targetAt}
-use Rattle.laws.proofs.Tests.{tests}
 use Rattle.frames.proofs.values.target_at.Tie as tie
 
 pub target-at-spec : {M : Type 1} → statement M

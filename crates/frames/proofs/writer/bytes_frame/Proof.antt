@@ -1,8 +1,8 @@
 -- `frames::writer::bytes_frame` meets its contract.
 -- Assumes nothing.
 use borrow.Author.Needs.{needs}
-use Rattle.frames.specs.Write.{bytesFrame}
 use Rattle.laws.proofs.Tests.{tests}
+use Rattle.frames.specs.Write.{bytesFrame}
 use Rattle.frames.proofs.writer.bytes_frame.Statement.{statement}
 use Rattle.frames.proofs.writer.bytes_frame.Tie as tie
 

@@ -1,8 +1,8 @@
 -- `frames::writer::event_fits` meets its contract.
 -- Assumes nothing.
 use borrow.Author.Needs.{needs}
-use Rattle.frames.specs.Write.{eventFits}
 use Rattle.laws.proofs.Tests.{tests}
+use Rattle.frames.specs.Write.{eventFits}
 use Rattle.frames.proofs.writer.event_fits.Statement.{statement}
 use Rattle.frames.proofs.writer.event_fits.Tie as tie
 

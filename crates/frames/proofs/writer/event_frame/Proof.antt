@@ -1,8 +1,8 @@
 -- `frames::writer::event_frame` meets its contract.
 -- Assumes nothing.
 use borrow.Author.Needs.{needs}
-use Rattle.frames.specs.Write.{eventFrame}
 use Rattle.laws.proofs.Tests.{tests}
+use Rattle.frames.specs.Write.{eventFrame}
 use Rattle.frames.proofs.writer.event_frame.Statement.{statement}
 use Rattle.frames.proofs.writer.event_frame.Tie as tie
 

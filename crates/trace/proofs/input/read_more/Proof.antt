@@ -4,8 +4,8 @@ use Prim.Native.Nat.{_-_}
 use borrow.Rule.Slice.PartMut.{putMid}
 use denote.Ref.{now}
 use lib.ListN.{length}
-use Rattle.io.proofs.Counting.{counts}
 use Rattle.trace.proofs.Ends.{behind}
+use Rattle.io.proofs.Counting.{counts}
 use borrow.Author.Needs.{needs}
 use Rattle.trace.proofs.input.read_more.Statement.{statement}
 use Rattle.trace.proofs.input.read_more.Tie as tie

@@ -8,8 +8,8 @@ use Rattle.trace.proofs.input.trace_all.Statement.{statement}
 use Rattle.trace.proofs.input.trace_all.Tie as tie
 use Rattle.trace.proofs.input.trace_all.Reads as reads
 use Rattle.trace.proofs.input.trace_all.Lts as lts
-use Rattle.io.proofs.large_buffer.Reads as large-buffer-reads
 use Rattle.trace.proofs.input.trace_some.Reads as trace-some-reads
+use Rattle.io.proofs.large_buffer.Reads as large-buffer-reads
 
 abbrev Inv-loop : tie.InvT-loop
 Inv-loop map store₀ image input₀ output₀ flow₀ turns₀ store input output flow turns =

@@ -3,14 +3,14 @@
 use mathlib.Core.Path.{_∙_}
 use Rattle.tracing.proofs.Settled.{answers-within}
 use borrow.Author.Needs.{needs}
+use Rattle.tracing.proofs.run.Reads as run-reads
+use Rattle.tracing.proofs.keep_rest.Reads as keep-rest-reads
 use Rattle.trace.proofs.input.trace_some.Statement.{statement}
 use Rattle.trace.proofs.input.trace_some.Tie as tie
 use Rattle.trace.proofs.input.trace_some.Reads as reads
 use Rattle.trace.proofs.input.trace_some.Lts as lts
 use Rattle.trace.proofs.input.read_more.Reads as read-more-reads
 use Rattle.trace.proofs.input.write_answers.Reads as write-answers-reads
-use Rattle.tracing.proofs.run.Reads as run-reads
-use Rattle.tracing.proofs.keep_rest.Reads as keep-rest-reads
 
 -- src/input.rt:48:9
 read-more-requires : tie.Need-read-more-requires

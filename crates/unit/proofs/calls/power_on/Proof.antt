@@ -3,10 +3,10 @@
 use mathlib.Core.Path.{refl, sym, _∙_}
 use borrow.Author.Tests.{eq-eqb, ne-eqb}
 use borrow.Author.Needs.{needs}
+use Rattle.numbers.proofs.Behind.{powered}
 use Rattle.unit.specs.Step.{powerOnOf}
 use Rattle.unit.proofs.calls.power_on.Statement.{statement}
 use Rattle.unit.proofs.calls.power_on.Tie as tie
-use Rattle.numbers.proofs.Behind.{powered}
 
 returns : tie.Need-returns
 unfolding powerOnOf

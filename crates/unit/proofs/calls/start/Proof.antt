@@ -3,10 +3,10 @@
 use mathlib.Core.Path.{refl, sym, _∙_}
 use borrow.Author.Tests.{eq-eqb, ne-eqb}
 use borrow.Author.Needs.{needs}
+use Rattle.numbers.proofs.Behind.{started}
 use Rattle.unit.specs.Step.{startOf}
 use Rattle.unit.proofs.calls.start.Statement.{statement}
 use Rattle.unit.proofs.calls.start.Tie as tie
-use Rattle.numbers.proofs.Behind.{started}
 
 returns : tie.Need-returns
 unfolding startOf

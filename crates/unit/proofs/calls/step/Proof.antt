@@ -3,10 +3,10 @@
 use mathlib.Core.Path.{refl, sym, _∙_}
 use borrow.Author.Tests.{eq-eqb, ne-eqb}
 use borrow.Author.Needs.{needs}
+use Rattle.numbers.proofs.Behind.{stepped}
 use Rattle.unit.specs.Step.{stepOf}
 use Rattle.unit.proofs.calls.step.Statement.{statement}
 use Rattle.unit.proofs.calls.step.Tie as tie
-use Rattle.numbers.proofs.Behind.{stepped}
 
 returns : tie.Need-returns
 unfolding stepOf

@@ -3,7 +3,7 @@ ghost use mathlib.Core.Path.{_≡_};
 ghost use Prim.Native.Nat.{_+_, _≤_};
 ghost use Rattle.laws.specs.Lists.{every};
 ghost use Rattle.laws.specs.Parts.{part, put};
-ghost use Rattle.mirtofalko.specs.StateBytes.{flag, bytesOf, stateBytes, fourAt, stateOf, shapeHolds};
+ghost use Rattle.packing.specs.StateBytes.{flag, bytesOf, stateBytes, fourAt, stateOf, shapeHolds};
 ghost use lib.Dec.{eqb};
 ghost use lib.ListN.{length, drop};
 use hearing::Waiting;

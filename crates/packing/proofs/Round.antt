@@ -15,9 +15,9 @@ use Rattle.laws.proofs.Tests.{both}
 use Rattle.laws.proofs.Bits.{above-all, above-none, cut}
 use Rattle.rooms.specs.declared.state.State.{State}
 use Rattle.tracing.specs.Entry.{fourBytes}
-use Rattle.mirtofalko.specs.StateBytes.{flag, bytesOf, stateBytes, fourAt, flagAt, stateOf, shapeHolds}
-use Rattle.mirtofalko.specs.Promises.{StateHeld, StateBack, Bytes, BytesBack}
-use Rattle.mirtofalko.proofs.Spelled.{at, part-items, spelled, zeros-are}
+use Rattle.packing.specs.StateBytes.{flag, bytesOf, stateBytes, fourAt, flagAt, stateOf, shapeHolds}
+use Rattle.packing.specs.Promises.{StateHeld, StateBack, Bytes, BytesBack}
+use Rattle.packing.proofs.Spelled.{at, part-items, spelled, zeros-are}
 
 -- a number is its four bytes
 four-back : (n : ℕ) → n < 2 ^ 32 → fourBytes (bits n 31 24) (bits n 23 16) (bits n 15 8) (bits n 7 0) ≡ n

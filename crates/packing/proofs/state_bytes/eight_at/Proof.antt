@@ -1,4 +1,4 @@
--- `mirtofalko::state_bytes::eight_at` meets its contract.
+-- `packing::state_bytes::eight_at` meets its contract.
 -- Assumes nothing.
 use Prim.Native.Nat.{_-_}
 use mathlib.Core.Path.{_≡_, refl}
@@ -6,9 +6,9 @@ use native.Mathlib.Omega.{arith}
 use borrow.Author.Needs.{needs}
 use lib.ListN.{length}
 use Rattle.laws.specs.Parts.{part}
-use Rattle.mirtofalko.proofs.Copied.{Read, read-more, all-read}
-use Rattle.mirtofalko.proofs.state_bytes.eight_at.Statement.{statement}
-use Rattle.mirtofalko.proofs.state_bytes.eight_at.Tie as tie
+use Rattle.packing.proofs.Copied.{Read, read-more, all-read}
+use Rattle.packing.proofs.state_bytes.eight_at.Statement.{statement}
+use Rattle.packing.proofs.state_bytes.eight_at.Tie as tie
 
 abbrev Inv-loop : tie.InvT-loop
 Inv-loop i bytes eight₀ k₀ eight k = Read 8 i bytes k eight

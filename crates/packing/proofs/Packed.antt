@@ -6,8 +6,8 @@ use mathlib.Core.List.{List}
 use lib.ListN.{length, getD, set, replicate}
 use Rattle.laws.specs.Parts.{part, put}
 use Rattle.rooms.specs.declared.state.State.{State}
-use Rattle.mirtofalko.specs.StateBytes.{flag, bytesOf, stateBytes, fourAt, flagAt, stateOf}
-use Rattle.mirtofalko.proofs.Spelled.{spelled}
+use Rattle.packing.specs.StateBytes.{flag, bytesOf, stateBytes, fourAt, flagAt, stateOf}
+use Rattle.packing.proofs.Spelled.{spelled}
 
 pub packed : (s : State) (waits opens holds : ℕ) (who frame clock staged latched : List ℕ) →
     waits ≡ flag (s .waiting .held) →

@@ -1,9 +1,9 @@
--- `mirtofalko::state_bytes::shape_holds` meets its contract.
+-- `packing::state_bytes::shape_holds` meets its contract.
 -- Assumes nothing.
-use Rattle.mirtofalko.specs.StateBytes.{shapeHolds}
+use Rattle.packing.specs.StateBytes.{shapeHolds}
 use borrow.Author.Needs.{needs}
-use Rattle.mirtofalko.proofs.state_bytes.shape_holds.Statement.{statement}
-use Rattle.mirtofalko.proofs.state_bytes.shape_holds.Tie as tie
+use Rattle.packing.proofs.state_bytes.shape_holds.Statement.{statement}
+use Rattle.packing.proofs.state_bytes.shape_holds.Tie as tie
 
 pub shape-holds-spec : {M : Type 1} → statement M
 unfolding shapeHolds

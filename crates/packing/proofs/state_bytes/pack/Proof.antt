@@ -1,9 +1,9 @@
--- `mirtofalko::state_bytes::pack` meets its contract.
+-- `packing::state_bytes::pack` meets its contract.
 -- Assumes nothing.
-use Rattle.mirtofalko.proofs.Packed.{packed}
+use Rattle.packing.proofs.Packed.{packed}
 use borrow.Author.Needs.{needs}
-use Rattle.mirtofalko.proofs.state_bytes.pack.Statement.{statement}
-use Rattle.mirtofalko.proofs.state_bytes.pack.Tie as tie
+use Rattle.packing.proofs.state_bytes.pack.Statement.{statement}
+use Rattle.packing.proofs.state_bytes.pack.Tie as tie
 
 returns : tie.Need-returns
 returns c =

@@ -1,4 +1,4 @@
--- `mirtofalko::state_bytes::is_zero_behind` meets its contract.
+-- `packing::state_bytes::is_zero_behind` meets its contract.
 -- Assumes nothing.
 use Prim.Native.Nat.{_-_}
 use mathlib.Core.Path.{_≡_, refl, sym, _∙_}
@@ -8,9 +8,9 @@ use borrow.Author.Tests.{eq-eqb, ne-eqb}
 use lib.Dec.{eqb}
 use lib.ListN.{length, drop}
 use Rattle.laws.specs.Lists.{every}
-use Rattle.mirtofalko.proofs.Spelled.{from-fails, from-goes-on, from-ends}
-use Rattle.mirtofalko.proofs.state_bytes.is_zero_behind.Statement.{statement}
-use Rattle.mirtofalko.proofs.state_bytes.is_zero_behind.Tie as tie
+use Rattle.packing.proofs.Spelled.{from-fails, from-goes-on, from-ends}
+use Rattle.packing.proofs.state_bytes.is_zero_behind.Statement.{statement}
+use Rattle.packing.proofs.state_bytes.is_zero_behind.Tie as tie
 
 abbrev Inv-loop : tie.InvT-loop
 Inv-loop bytes i₀ i =

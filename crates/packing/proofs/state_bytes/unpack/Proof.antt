@@ -1,9 +1,9 @@
--- `mirtofalko::state_bytes::unpack` meets its contract.
+-- `packing::state_bytes::unpack` meets its contract.
 -- Assumes nothing.
-use Rattle.mirtofalko.proofs.Packed.{unpacked}
+use Rattle.packing.proofs.Packed.{unpacked}
 use borrow.Author.Needs.{needs}
-use Rattle.mirtofalko.proofs.state_bytes.unpack.Statement.{statement}
-use Rattle.mirtofalko.proofs.state_bytes.unpack.Tie as tie
+use Rattle.packing.proofs.state_bytes.unpack.Statement.{statement}
+use Rattle.packing.proofs.state_bytes.unpack.Tie as tie
 
 returns : tie.Need-returns
 returns c =

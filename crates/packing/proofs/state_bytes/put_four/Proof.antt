@@ -1,13 +1,13 @@
--- `mirtofalko::state_bytes::put_four` meets its contract.
+-- `packing::state_bytes::put_four` meets its contract.
 -- Assumes nothing.
 use Rattle.laws.specs.Bits.{bits}
-use Rattle.mirtofalko.proofs.Spelled.{put-from}
-use Rattle.mirtofalko.specs.StateBytes.{bytesOf}
+use Rattle.packing.proofs.Spelled.{put-from}
+use Rattle.packing.specs.StateBytes.{bytesOf}
 use native.Mathlib.Nat.{add-zero, div-one}
 use mathlib.Core.Path.{sym, _∙_}
 use borrow.Author.Needs.{needs}
-use Rattle.mirtofalko.proofs.state_bytes.put_four.Statement.{statement}
-use Rattle.mirtofalko.proofs.state_bytes.put_four.Tie as tie
+use Rattle.packing.proofs.state_bytes.put_four.Statement.{statement}
+use Rattle.packing.proofs.state_bytes.put_four.Tie as tie
 
 pub put-four-spec : {M : Type 1} → statement M
 unfolding bytesOf bits

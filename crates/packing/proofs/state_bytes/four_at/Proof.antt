@@ -1,9 +1,9 @@
--- `mirtofalko::state_bytes::four_at` meets its contract.
+-- `packing::state_bytes::four_at` meets its contract.
 -- Assumes nothing.
-use Rattle.mirtofalko.specs.StateBytes.{fourAt}
+use Rattle.packing.specs.StateBytes.{fourAt}
 use borrow.Author.Needs.{needs}
-use Rattle.mirtofalko.proofs.state_bytes.four_at.Statement.{statement}
-use Rattle.mirtofalko.proofs.state_bytes.four_at.Tie as tie
+use Rattle.packing.proofs.state_bytes.four_at.Statement.{statement}
+use Rattle.packing.proofs.state_bytes.four_at.Tie as tie
 
 pub four-at-spec : {M : Type 1} → statement M
 unfolding fourAt

@@ -1,4 +1,4 @@
--- `mirtofalko::state_bytes::put_eight` meets its contract.
+-- `packing::state_bytes::put_eight` meets its contract.
 -- Assumes nothing.
 use Prim.Native.Nat.{_-_}
 use mathlib.Core.Path.{_≡_, refl}
@@ -6,9 +6,9 @@ use native.Mathlib.Omega.{arith}
 use borrow.Author.Needs.{needs}
 use lib.ListN.{length}
 use Rattle.laws.specs.Parts.{put}
-use Rattle.mirtofalko.proofs.Copied.{Put, more-put, all-put}
-use Rattle.mirtofalko.proofs.state_bytes.put_eight.Statement.{statement}
-use Rattle.mirtofalko.proofs.state_bytes.put_eight.Tie as tie
+use Rattle.packing.proofs.Copied.{Put, more-put, all-put}
+use Rattle.packing.proofs.state_bytes.put_eight.Statement.{statement}
+use Rattle.packing.proofs.state_bytes.put_eight.Tie as tie
 
 abbrev Inv-loop : tie.InvT-loop
 Inv-loop i eight b₀ k₀ b k = (length eight ≡ 8) × Put i eight b₀ k b

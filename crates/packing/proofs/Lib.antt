@@ -1,0 +1,5 @@
+pub mod Spelled
+pub mod Copied
+pub mod Packed
+pub mod Round
+pub mod Cases

@@ -1,0 +1,3 @@
+pub mod StateBytes
+pub mod Promises
+pub mod Cases
