@@ -1,8 +1,9 @@
 -- `unit::calls::start` meets its contract.
 -- Assumes nothing.
-use mathlib.Core.Path.{refl, sym, _∙_}
+use mathlib.Core.Path.{refl, sym, ap, _∙_}
 use borrow.Author.Tests.{eq-eqb, ne-eqb}
 use borrow.Author.Needs.{needs}
+use Rattle.rooms.specs.Reply.{refusing}
 use Rattle.numbers.proofs.Behind.{started}
 use Rattle.unit.specs.Step.{startOf}
 use Rattle.unit.proofs.calls.start.Statement.{statement}
@@ -11,8 +12,12 @@ use Rattle.unit.proofs.calls.start.Tie as tie
 returns : tie.Need-returns
 unfolding startOf
 returns c =
-    rw (← c .before .before .before .start-number .ensures, ne-eqb _ _ (c .before .before .if1 .taken))
-    (record { answer = rw (← c .before .powered-on .ensures) (c .refusing .ensures); store = refl })
+    let number = c .before .before .before .start-number in
+    rw (← number .ensures, ne-eqb _ _ (c .before .before .if1 .taken))
+    (record {
+      answer = c .refusing .ensures ∙ ap (λ s. refusing s (number .result)) (c .before .powered-on .ensures);
+      store = refl;
+    })
 
 power-step-requires : tie.Need-power-step-requires
 power-step-requires c κs =
