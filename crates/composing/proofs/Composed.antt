@@ -93,7 +93,8 @@ second-below e r Scheme.ShortNumber = r .number
 second-below e r Scheme.GroupType = r .sort
 second-below e r Scheme.PrimaryType = r .sort
 
-event-fits : (s : Scheme) (x y i : ℕ) → x < schemeLimit s → y < 32 → i < 1024 → messageFits (Message.Event s x y i) ≡ true
+event-fits : (s : Scheme) (x y i : ℕ) → x < schemeLimit s → y < 32 → i < 1024
+    → messageFits (Message.Event s x y i) ≡ true
 unfolding eventFits
 event-fits s x y i a b c = simp (lt-ltb x (schemeLimit s) a, lt-ltb y 32 b, lt-ltb i 1024 c)
 

@@ -113,7 +113,8 @@ target-forth (Target.InstanceNumber n) f =
     (range-forth Target.InstanceNumber 0x00 1 (λ n. refl) refl refl (lit< tt) n f)
 target-forth (Target.InstanceGroup n) f = range-forth Target.InstanceGroup 0x80 2 (λ n. refl) refl refl (lit< tt) n f
 target-forth (Target.InstanceType n) f = range-forth Target.InstanceType 0xC0 3 (λ n. refl) refl refl (lit< tt) n f
-target-forth (Target.FeatureAtNumber n) f = range-forth Target.FeatureAtNumber 0x20 4 (λ n. refl) refl refl (lit< tt) n f
+target-forth (Target.FeatureAtNumber n) f = range-forth Target.FeatureAtNumber 0x20 4 (λ n. refl) refl refl
+    (lit< tt) n f
 target-forth (Target.FeatureAtGroup n) f = range-forth Target.FeatureAtGroup 0xA0 5 (λ n. refl) refl refl (lit< tt) n f
 target-forth (Target.FeatureAtType n) f = range-forth Target.FeatureAtType 0x60 6 (λ n. refl) refl refl (lit< tt) n f
 target-forth Target.FeatureBroadcast f = (refl, lit< tt)

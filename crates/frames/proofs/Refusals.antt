@@ -122,9 +122,23 @@ power-eleven f none = go (powerBits f) refl
         let h : bits f 23 17 ≡ 127 = eqb-true _ _ (p .0) in
         let l : bits f 15 13 ≡ 7 = eqb-true _ _ (p .1) in
         let b : bits f 23 22 ≡ 3 =
-        omega (arith, cut f 23 17 (lit≤ tt), cut f 21 17 (lit≤ tt), cut f 23 22 (lit≤ tt), small f 21 17, small f 23 22) in
+        omega (
+          arith,
+          cut f 23 17 (lit≤ tt),
+          cut f 21 17 (lit≤ tt),
+          cut f 23 22 (lit≤ tt),
+          small f 21 17,
+          small f 23 22,
+        ) in
         let d : bit f 15 ≡ 1 =
-        omega (arith, cut f 15 13 (lit≤ tt), cut f 14 13 (lit≤ tt), cut f 15 15 (lit≤ tt), small f 14 13, small f 15 15) in
+        omega (
+          arith,
+          cut f 15 13 (lit≤ tt),
+          cut f 14 13 (lit≤ tt),
+          cut f 15 15 (lit≤ tt),
+          small f 14 13,
+          small f 15 15,
+        ) in
         clash (elevenOne f) (simp (b, d)) none
 
 abbrev schemeSays : ℕ → Schemed → Bool

@@ -137,7 +137,8 @@ FieldBack b v Fielded.NotBlank = Unit {0}
 field-back : (b v : ℕ) → b < 2 → FieldBack b v (fieldOf b v)
 unfolding fieldOf
 field-back b v two =
-    if-eq (FieldBack b v) b 1 (λ e. (sym e, refl)) (λ n. if-eq (FieldBack b v) v 0 (λ e. (omega arith, sym e)) (λ n. tt))
+    if-eq (FieldBack b v) b 1 (λ e. (sym e, refl)) (λ n. if-eq (FieldBack b v) v 0 (λ e. (omega arith, sym e))
+    (λ n. tt))
 
 power-back : (f : ℕ) → f < 2 ^ 24 → bit f 16 ≡ 0 → bits f 23 17 ≡ 0x7F → bits f 15 13 ≡ 7 → Back f (powerOf f)
 unfolding powerOf powerFrame
@@ -145,7 +146,8 @@ power-back f frame even high low =
     go (fieldOf (bit f 12) (bits f 11 7)) (fieldOf (bit f 6) (bits f 5 0))
     (field-back _ _ (small f 12 12)) (field-back _ _ (small f 6 6))
   where
-    go : (x y : Fielded) → FieldBack (bit f 12) (bits f 11 7) x → FieldBack (bit f 6) (bits f 5 0) y → Back f (powered x y)
+    go : (x y : Fielded) → FieldBack (bit f 12) (bits f 11 7) x → FieldBack (bit f 6) (bits f 5 0) y
+        → Back f (powered x y)
     go Fielded.NotBlank y p q = tt
     go (Fielded.Is x) Fielded.NotBlank p q = tt
     go (Fielded.Is x) (Fielded.Is y) p q =
@@ -338,7 +340,8 @@ write-says : (m : Message) (f : ℕ) → writeOf m ≡ Writing.Frame f → (mess
 unfolding writeOf
 write-says m f e = go (messageFits m) refl e
   where
-    go : (t : Bool) → messageFits m ≡ t → (if t then Writing.Frame (frameOf m) else Writing.Refused 6) ≡ Writing.Frame f →
+    go : (t : Bool) → messageFits m ≡ t
+        → (if t then Writing.Frame (frameOf m) else Writing.Refused 6) ≡ Writing.Frame f →
         (messageFits m ≡ true) × (frameOf m ≡ f)
     go true p q = (p, cc)
     go false p q = let z : _≡_ {A = ℕ} 0 1 = cc in absurd (omega arith)

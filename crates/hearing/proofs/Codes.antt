@@ -90,7 +90,8 @@ module _ (who : Who) (f : ℕ) where
   aimed-right a Targeted.Reserved e = tt
   aimed-right a (Targeted.At t) e = target-right a t (eqb-true _ _ (both (ltb (targetNumber t) 32) _ e .1))
 
-  addressed-right : (a : Addressed) → addressBack (bits f 23 16) a ≡ true → Right (addressed a (bits f 15 8) (bits f 7 0))
+  addressed-right : (a : Addressed) → addressBack (bits f 23 16) a ≡ true
+      → Right (addressed a (bits f 15 8) (bits f 7 0))
   unfolding Right
   addressed-right Addressed.Reserved e = tt
   addressed-right (Addressed.To a) e = aimed-right a (targetOf (bits f 15 8)) (target-back (bits f 15 8) (small f 15 8))

@@ -25,7 +25,8 @@ unfolding above bits
 cut f hi lo h =
     sym (mod-add-div (f / 2 ^ lo) (2 ^ (hi + 1 - lo)))
     ∙ ap (λ (q : ℕ). f / 2 ^ lo % 2 ^ (hi + 1 - lo) + 2 ^ (hi + 1 - lo) * q)
-    (div-div-eq-div-mul f (2 ^ lo) (2 ^ (hi + 1 - lo)) ∙ ap (λ (p : ℕ). f / p) (sym (pow-add 2 lo (hi + 1 - lo)) ∙ ap (λ (k : ℕ). 2 ^ k) (add-sub-of-le h)))
+    (div-div-eq-div-mul f (2 ^ lo) (2 ^ (hi + 1 - lo))
+    ∙ ap (λ (p : ℕ). f / p) (sym (pow-add 2 lo (hi + 1 - lo)) ∙ ap (λ (k : ℕ). 2 ^ k) (add-sub-of-le h)))
 
 -- a field is below the power of its width
 pub small : (f hi lo : ℕ) → bits f hi lo < 2 ^ (hi + 1 - lo)
@@ -33,7 +34,8 @@ unfolding bits
 small f hi lo = mod-lt (f / 2 ^ lo) (pow-pos (hi + 1 - lo))
 
 -- the field of a sum: what stands above it, the field, and what stands below it
-pub bits-is : (f hi lo rest d low : ℕ) → f ≡ (rest * 2 ^ (hi + 1 - lo) + d) * 2 ^ lo + low → d < 2 ^ (hi + 1 - lo) → low < 2 ^ lo → bits f hi lo ≡ d
+pub bits-is : (f hi lo rest d low : ℕ) → f ≡ (rest * 2 ^ (hi + 1 - lo) + d) * 2 ^ lo + low → d < 2 ^ (hi + 1 - lo)
+    → low < 2 ^ lo → bits f hi lo ≡ d
 unfolding bits
 bits-is f hi lo rest d low e p q =
     ap (λ (n : ℕ). n / 2 ^ lo % 2 ^ (hi + 1 - lo)) e

@@ -22,8 +22,10 @@ module _ {A : Type 0} (item : ℕ → A) where
       go k e = rw e
 
   -- while i < n: the items from i on are item i, and those from i + 1 on
-  pub items-cons : (i n : ℕ) → i < n → (x : A) → x ≡ item i → items item i (n - i) ≡ x ∷ items item (i + 1) (n - (i + 1))
-  items-cons i n h x e = go (n - i) (n - (i + 1)) (omega arith) ∙ ap (λ (y : A). y ∷ items item (i + 1) (n - (i + 1))) (sym e)
+  pub items-cons : (i n : ℕ) → i < n → (x : A) → x ≡ item i
+      → items item i (n - i) ≡ x ∷ items item (i + 1) (n - (i + 1))
+  items-cons i n h x e = go (n - i) (n - (i + 1)) (omega arith)
+      ∙ ap (λ (y : A). y ∷ items item (i + 1) (n - (i + 1))) (sym e)
     where
       go : (k l : ℕ) → k ≡ suc l → items item i k ≡ item i ∷ items item (i + 1) l
       go k l q = rw q (ap (λ (j : ℕ). item i ∷ items item j l) (sym (add-one i)))

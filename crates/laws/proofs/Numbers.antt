@@ -18,7 +18,8 @@ unfolding firstFailing
 given [] n h e = omega arith
 given (t ∷ ts) n h e = go (given ts n h) (t .passes) refl e
   where
-    go : (firstFailing ts ≡ n → Given ts n) → (b : Bool) → t .passes ≡ b → (if b then firstFailing ts else t .number) ≡ n → Given (t ∷ ts) n
+    go : (firstFailing ts ≡ n → Given ts n) → (b : Bool) → t .passes ≡ b
+        → (if b then firstFailing ts else t .number) ≡ n → Given (t ∷ ts) n
     go rest true p q = inr (p, rest q)
     go rest false p q = inl (p, q)
 

@@ -21,7 +21,8 @@ module _ (at n : ℕ) where
   pub part-stays : (bs s : List ℕ) (i : ℕ) → (i + length bs ≤ at) ⊎ (at + n ≤ i) → part at n (put i bs s) ≡ part at n s
   unfolding put
   part-stays [] s i h = refl
-  part-stays (b ∷ bs) s i (inl h) = part-stays bs (set s i b) (suc i) (inl (omega arith)) ∙ one s i b (inl (omega arith))
+  part-stays (b ∷ bs) s i (inl h) = part-stays bs (set s i b) (suc i) (inl (omega arith))
+      ∙ one s i b (inl (omega arith))
   part-stays (b ∷ bs) s i (inr h) = part-stays bs (set s i b) (suc i) (inr (omega arith)) ∙ one s i b (inr h)
 
 -- the part that was put is there
@@ -29,7 +30,8 @@ pub part-put : (at : ℕ) (bs s : List ℕ) → at + length bs ≤ length s → 
 unfolding part put
 part-put at bs s h =
     rw (sets-eq bs s at h, append-assoc)
-    (rw (drop-at (take at s) (bs ++ drop (at + length bs) s) at (length-take-le at s (omega arith))) (take-at bs _ (length bs) refl))
+    (rw (drop-at (take at s) (bs ++ drop (at + length bs) s) at (length-take-le at s (omega arith)))
+    (take-at bs _ (length bs) refl))
 
 pub length-put : (at : ℕ) (bs s : List ℕ) → length (put at bs s) ≡ length s
 unfolding put

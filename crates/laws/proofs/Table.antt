@@ -13,7 +13,8 @@ abbrev pub each : (ℕ → ℕ → Bool) → ℕ → List ℕ → Bool
 each f i [] = true
 each f i (x ∷ xs) = f i x && each f (suc i) xs
 
-from : (f : ℕ → ℕ → Bool) (xs : List ℕ) (i : ℕ) → each f i xs ≡ true → (k : ℕ) → k < length xs → f (i + k) (getD xs k 0) ≡ true
+from : (f : ℕ → ℕ → Bool) (xs : List ℕ) (i : ℕ) → each f i xs ≡ true → (k : ℕ) → k < length xs
+    → f (i + k) (getD xs k 0) ≡ true
 from f [] i t k h = absurd (not-suc-le-zero h)
 from f (x ∷ xs) i t zero h = subst (λ (m : ℕ). f m x ≡ true) (sym (add-zero i)) (both (f i x) (each f (suc i) xs) t .0)
 from f (x ∷ xs) i t (suc k) h =

@@ -12,14 +12,17 @@ use Rattle.laws.specs.Choice.{if_then_else_}
 pub ruleset tests = (lt-ltb, le-ltb, le-leb, lt-leb, eq-eqb, ne-eqb, div-one)
 
 -- by cases on a test that a definition makes: each case has the fact
-pub if-by : {A : Type 0} (P : A → Type 0) (t : Bool) {x y : A} → (t ≡ true → P x) → (t ≡ false → P y) → P (if t then x else y)
+pub if-by : {A : Type 0} (P : A → Type 0) (t : Bool) {x y : A} → (t ≡ true → P x) → (t ≡ false → P y)
+    → P (if t then x else y)
 if-by P true f g = f refl
 if-by P false f g = g refl
 
-pub if-lt : {A : Type 0} (P : A → Type 0) (m n : ℕ) {x y : A} → (m < n → P x) → (n ≤ m → P y) → P (if ltb m n then x else y)
+pub if-lt : {A : Type 0} (P : A → Type 0) (m n : ℕ) {x y : A} → (m < n → P x) → (n ≤ m → P y)
+    → P (if ltb m n then x else y)
 if-lt P m n f g = if-by P (ltb m n) (λ e. f (ltb-true m n e)) (λ e. g (ltb-false m n e))
 
-pub if-eq : {A : Type 0} (P : A → Type 0) (m n : ℕ) {x y : A} → (m ≡ n → P x) → ((m ≡ n → ⊥) → P y) → P (if eqb m n then x else y)
+pub if-eq : {A : Type 0} (P : A → Type 0) (m n : ℕ) {x y : A} → (m ≡ n → P x) → ((m ≡ n → ⊥) → P y)
+    → P (if eqb m n then x else y)
 if-eq P m n f g = if-by P (eqb m n) (λ e. f (eqb-true m n e)) (λ e. g (eqb-false m n e))
 
 -- both halves of a test that passed, and back

@@ -42,6 +42,7 @@ unfolding trailingZeros
 lowest-found zero n p h = absurd (omega arith)
 lowest-found (suc k) n p h = go (n % 2) refl (lowest-found k (n / 2))
   where
-    go : (d : ℕ) → n % 2 ≡ d → (0 < n / 2 → n / 2 < 2 ^ k → trailingZeros k (n / 2) < k) → under d (trailingZeros k (n / 2)) < suc k
+    go : (d : ℕ) → n % 2 ≡ d → (0 < n / 2 → n / 2 < 2 ^ k → trailingZeros k (n / 2) < k)
+        → under d (trailingZeros k (n / 2)) < suc k
     go (suc d) e f = omega arith
     go zero e f = suc-le-suc (f (omega arith) (omega (arith, pow-suc 2 k)))

@@ -11,6 +11,6 @@ use Rattle.looks.specs.Look.{lookNumber, lookOf, lookBytes}
 use Rattle.looks.specs.Cases.{LookCases}
 
 pub look-cases : LookCases
-unfolding lookBytes lookOf lookNumber firstFailing sizeHolds recordsOf recordAt placesHold lengthsHold banksHold bankHolds
-    headBytesHold headHolds headByteHolds beginner ifFirst holder part
+unfolding lookBytes lookOf lookNumber firstFailing sizeHolds recordsOf recordAt placesHold lengthsHold banksHold
+    bankHolds headBytesHold headHolds headByteHolds beginner ifFirst holder part
 look-cases = record { numbers = refl; places = refl; bytes = refl }

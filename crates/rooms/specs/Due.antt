@@ -14,7 +14,8 @@ use Rattle.hearing.specs.Pairs.{completes}
 use Rattle.hearing.specs.declared.rooms.Who.{Who}
 use Rattle.hearing.specs.declared.rooms.Heard.{Heard}
 use Rattle.hearing.specs.declared.meaning.Once.{Once}
-use Rattle.hearing.specs.declared.meaning.Once.the-variants.{QueryMissingShortAddress, QueryContentDtr, QueryDeviceGroups}
+use Rattle.hearing.specs.declared.meaning.Once.the-variants.{QueryMissingShortAddress, QueryContentDtr}
+use Rattle.hearing.specs.declared.meaning.Once.the-variants.{QueryDeviceGroups}
 use Rattle.hearing.specs.declared.meaning.Once.the-variants.{ReadMemoryLocation, WriteMemoryLocation}
 use Rattle.hearing.specs.declared.meaning.Once.the-variants.{DirectWriteMemory, SetDtr, SetDtrs}
 use Rattle.hearing.specs.declared.meaning.Twice.{Twice}

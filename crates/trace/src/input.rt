@@ -6,8 +6,8 @@ use libc::STDIN_FILENO;
 use libc::STDOUT_FILENO;
 use rooms::State;
 
-// Between two reads: the state, how many bytes of an unfinished record wait at the front of the input, whether one is left
-// at the end, and whether to read on.
+// Between two reads: the state, how many bytes of an unfinished record wait at the front of the input, whether one is
+// left at the end, and whether to read on.
 struct Flow {
     state: State,
     kept: usize,
@@ -58,8 +58,8 @@ fn trace_some(
     }
 }
 
-// Answers whether the input ends in an unfinished record. A proved loop has to end, and nothing says that the input does:
-// so it counts its turns down, from a number that no run uses up.
+// Answers whether the input ends in an unfinished record. A proved loop has to end, and nothing says that the input
+// does: so it counts its turns down, from a number that no run uses up.
 fn trace_all(map: &[u8], store: &mut [u8], image: &[u8], state: State) -> bool {
     let mut input = io::large_buffer();
     let mut output = io::large_buffer();

@@ -1,4 +1,5 @@
-// Traces the unit of the working folder: reads its files, and records on standard input; writes what it answers, and the store.
+// Traces the unit of the working folder: reads its files, and records on standard input; writes what it answers, and
+// the store.
 mod files; // what it starts from
 mod input; // record after record
 

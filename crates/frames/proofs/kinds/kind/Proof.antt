@@ -41,7 +41,8 @@ array-read-result c = search needs
 returns : tie.Need-returns
 unfolding kinds right kindOf
 returns c =
-    eqb-true (getD kinds (c .args .byte) 0) (kindOf (c .args .byte)) (at right kinds refl (c .args .byte) (search needs))
+    eqb-true (getD kinds (c .args .byte) 0) (kindOf (c .args .byte))
+    (at right kinds refl (c .args .byte) (search needs))
 
 pub kind-spec : {M : Type 1} → statement M
 kind-spec = tie.close (tie.spec array-read-result returns)

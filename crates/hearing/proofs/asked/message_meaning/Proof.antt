@@ -15,7 +15,11 @@ message-meaning-spec =
     (λ c κs. search needs)
     (λ c. search needs)
     (λ c. search needs)
-    (λ c. rw (c .before .before .before .before .message .given .1, ← c .before .before .is-for .ensures, c .before .if1 .taken)
+    (λ c. rw (
+      c .before .before .before .before .message .given .1,
+      ← c .before .before .is-for .ensures,
+      c .before .if1 .taken,
+    )
     (c .command-at .ensures))
     (λ c. rw (c .before .before .before .message .given .1, ← c .before .is-for .ensures, c .if1 .left))
     (λ c. rw (c .before .before .message2 .given .1) (c .special-command .ensures))

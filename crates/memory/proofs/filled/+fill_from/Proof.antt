@@ -66,7 +66,8 @@ pub +fill-from-spec : {M : Type 1} → statement M
     let read = rest .before .before .before .before in
     fill-chosen _ _ _ _ _ (read .before .before .records .ensures) _ (read .before .if1 .taken)
     _ (read .record-at .ensures) _ (rest .before .before .is-chosen .ensures)
-    _ (rest .fill-from .ensures) (c .before .before .before .before .if2 .taken) _ (c .before .before .freshen .ensures))
+    _ (rest .fill-from .ensures) (c .before .before .before .before .if2 .taken) _
+    (c .before .before .freshen .ensures))
     (λ c. search needs)
     (λ c.
     let rest = c .before .before .before in

@@ -11,7 +11,8 @@ unfolding putValue
 returns c =
     let end = c .before .before .before .before in
     let start = end .before .before .before .before in
-    put-back _ _ _ _ (end .places-end .ensures) (start .pre .0) _ _ (start .pre .1) (c .before .before .put-part .ensures)
+    put-back _ _ _ _ (end .places-end .ensures) (start .pre .0) _ _ (start .pre .1)
+    (c .before .before .put-part .ensures)
 
 pub put-value-spec : {M : Type 1} → statement M
 put-value-spec =

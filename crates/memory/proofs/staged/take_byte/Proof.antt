@@ -12,7 +12,11 @@ unfolding takeByte
 returns c =
     let put = c .before .before .before .before in
     let branch = put .before .before .before in
-    rw (eq-eqb _ _ (branch .if1 .taken), ← branch .before .before .bytes-with .ensures, ← c .before .none-staged .ensures)
+    rw (
+      eq-eqb _ _ (branch .if1 .taken),
+      ← branch .before .before .bytes-with .ensures,
+      ← c .before .none-staged .ensures,
+    )
     (record { answer = c .wrote-as .ensures; store = put .put-value .ensures })
 
 pub take-byte-spec : {M : Type 1} → statement M

@@ -6,10 +6,6 @@ use native.Mathlib.Omega.{arith}
 use lib.ListN.{length}
 use Rattle.trace.proofs.input.trace_all.Statement.{statement}
 use Rattle.trace.proofs.input.trace_all.Tie as tie
-use Rattle.trace.proofs.input.trace_all.Reads as reads
-use Rattle.trace.proofs.input.trace_all.Lts as lts
-use Rattle.trace.proofs.input.trace_some.Reads as trace-some-reads
-use Rattle.io.proofs.large_buffer.Reads as large-buffer-reads
 
 abbrev Inv-loop : tie.InvT-loop
 Inv-loop map store₀ image input₀ output₀ flow₀ turns₀ store input output flow turns =
@@ -18,60 +14,54 @@ Inv-loop map store₀ image input₀ output₀ flow₀ turns₀ store input outp
 abbrev μ-loop : tie.MeasureT-loop
 μ-loop map store₀ image input₀ output₀ flow₀ turns₀ store input output flow turns = turns
 
--- src/input.rt:64:21
 large-buffer-requires : tie.Need-large-buffer-requires Inv-loop μ-loop
 large-buffer-requires c κs = tt
 
--- src/input.rt:65:22
 large-buffer-requires-2 : tie.Need-large-buffer-requires-2 Inv-loop μ-loop
 large-buffer-requires-2 c κs = tt
 
--- src/input.rt:73:5
 loop-holds : tie.Need-loop-holds Inv-loop μ-loop
 loop-holds c = (c .before .large-buffer .ensures, c .large-buffer2 .ensures, omega arith, refl)
 
--- src/input.rt:74:52
 slice-aggregate-trace-some : tie.Need-slice-aggregate-trace-some Inv-loop μ-loop
 slice-aggregate-trace-some c = c .before .before .before .before .loop .inv .0
 
--- src/input.rt:74:64
 slice-aggregate-trace-some-2 : tie.Need-slice-aggregate-trace-some-2 Inv-loop μ-loop
 slice-aggregate-trace-some-2 c = c .before .before .before .before .before .loop .inv .1
 
--- src/input.rt:74:9
 trace-some-requires : tie.Need-trace-some-requires Inv-loop μ-loop
-trace-some-requires c κs = omega (arith, c .before .before .before .before .before .loop .inv .0, c .before .before .before .before .before .loop .inv .2)
+trace-some-requires c κs = omega (
+  arith,
+  c .before .before .before .before .before .loop .inv .0,
+  c .before .before .before .before .before .loop .inv .2,
+)
 
--- src/input.rt:75:9
 sub-turns : tie.Need-sub-turns Inv-loop μ-loop
 sub-turns c = omega (arith, c .before .before .before .before .before .before .before .before .before .loop-test .taken)
 
--- src/input.rt:73:5
 loop-less : tie.Need-loop-less Inv-loop μ-loop
 loop-less c = omega (arith, c .before .before .before .before .before .before .before .before .before .loop-test .taken)
 
--- src/input.rt:73:5
 loop-again : tie.Need-loop-again Inv-loop μ-loop
 loop-again c = (
-  c .before .before .before .before .before .before .before .before .before .before .loop .inv .0 ∙ sym (c .before .before .before .before .trace-some .kept .1 .1 .1 .1 .0),
-  c .before .before .before .before .before .before .before .before .before .before .loop .inv .1 ∙ sym (c .before .before .before .before .trace-some .kept .1 .1 .1 .1 .1 .0),
+  c .before .before .before .before .before .before .before .before .before .before .loop .inv .0
+      ∙ sym (c .before .before .before .before .trace-some .kept .1 .1 .1 .1 .0),
+  c .before .before .before .before .before .before .before .before .before .before .loop .inv .1
+      ∙ sym (c .before .before .before .before .trace-some .kept .1 .1 .1 .1 .1 .0),
   c .before .before .before .before .trace-some .ensures,
-  c .before .before .before .before .trace-some .kept .1 .0 ∙ c .before .before .before .before .before .before .before .before .before .before .loop .inv .3,
+  c .before .before .before .before .trace-some .kept .1 .0
+      ∙ c .before .before .before .before .before .before .before .before .before .before .loop .inv .3,
 )
 
--- src/input.rt:63:1
 same-length : tie.Need-same-length Inv-loop μ-loop
 same-length c = c .before .before .loop .inv .3
 
--- src/input.rt:63:1
 returns : tie.Need-returns Inv-loop μ-loop
 returns c = tt
 
--- src/input.rt:63:1
 same-length-2 : tie.Need-same-length-2 Inv-loop μ-loop
 same-length-2 c = c .before .loop .inv .3
 
--- src/input.rt:63:1
 returns-2 : tie.Need-returns-2 Inv-loop μ-loop
 returns-2 c = tt
 

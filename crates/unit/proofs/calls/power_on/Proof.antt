@@ -16,7 +16,8 @@ returns c =
 
 power-step-requires : tie.Need-power-step-requires
 power-step-requires c κs =
-    let stands = powered _ _ _ _ (sym (c .before .before .before .power-number .ensures) ∙ c .before .before .if1 .left) in
+    let stands = powered _ _ _ _ (sym (c .before .before .before .power-number .ensures)
+    ∙ c .before .before .if1 .left) in
     (stands .in-place, stands .as-long)
 
 returns-2 : tie.Need-returns-2

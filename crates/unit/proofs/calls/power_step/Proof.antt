@@ -15,4 +15,7 @@ power-step-spec =
     (λ c κs. search needs)
     (λ c κs. search needs)
     (λ c. search needs)
-    (λ c. record { answer = c .quiet .ensures ∙ ap quiet (c .before .powered-on .ensures); store = c .before .before .before .before .fill-store .ensures }))
+    (λ c. record {
+      answer = c .quiet .ensures ∙ ap quiet (c .before .powered-on .ensures);
+      store = c .before .before .before .before .fill-store .ensures;
+    }))
