@@ -1,6 +1,5 @@
 -- What is proved of the numbers: settled, given exactly if, in order. Paper 01, "Refusal numbers" and "How the
--- promises are
--- judged". Proved in proofs/Numbers.antt.
+-- promises are judged". Proved in proofs/Numbers.antt.
 -- Assumes nothing.
 use Prim.Native.Nat.{ℕ, _<_}
 use mathlib.Core.Path.{_≡_}
