@@ -6,6 +6,10 @@ use lib.Dec.{eqb, leb}
 use Rattle.hearing.specs.declared.rooms.Heard.{Heard}
 use Rattle.hearing.specs.declared.rooms.Waiting.{Waiting}
 
+-- a frame, heard at this clock
+abbrev pub heardAt : (clock frame : ℕ) → Heard
+heardAt clock frame = record { clock = clock; frame = frame }
+
 -- the clock counts milliseconds in 32 bits and runs over: second minus first, modulo 4,294,967,296
 unfoldable pub passed : (first second : ℕ) → ℕ
 passed first second = (second + 2 ^ 32 - first) % 2 ^ 32

@@ -12,7 +12,7 @@ use Rattle.frames.specs.declared.message.Address.{Address}
 use Rattle.frames.specs.declared.message.Reading.{Reading}
 use Rattle.hearing.specs.Codes.{Code, device, special, codeOf, Stands}
 use Rattle.hearing.specs.Meaning.{Row, isFor, deviceRows, firstRows, otherRows, meaningOf, closes}
-use Rattle.hearing.specs.Pairs.{passed, completes, noneWaits, waitsFor}
+use Rattle.hearing.specs.Pairs.{heardAt, passed, completes, noneWaits, waitsFor}
 use Rattle.hearing.specs.declared.rooms.Heard.{Heard}
 use Rattle.hearing.specs.declared.rooms.Who.{Who}
 use Rattle.hearing.specs.declared.meaning.Meaning.{Meaning}
@@ -56,16 +56,12 @@ ElevenKeep =
     ∷ special 0xC5 first second ∷ special 0xC7 first second ∷ special 0xC9 first second
     ∷ []
 
--- the frame, heard at this clock
-abbrev pub at : ℕ → ℕ → Heard
-at clock frame = record { clock = clock; frame = frame }
-
 -- the bench sheet's clocks: 0 and 100 a pair, 101 none; 4,294,967,250 then 50: difference 96, a pair
 pub record PairClocks (frame : ℕ) : Type 0 where
-  pub in-time : completes (waitsFor (at 0 frame)) (at 100 frame) ≡ true
-  pub too-late : completes (waitsFor (at 0 frame)) (at 101 frame) ≡ false
+  pub in-time : completes (waitsFor (heardAt 0 frame)) (heardAt 100 frame) ≡ true
+  pub too-late : completes (waitsFor (heardAt 0 frame)) (heardAt 101 frame) ≡ false
   pub difference : passed 4294967250 50 ≡ 96
-  pub run-over : completes (waitsFor (at 4294967250 frame)) (at 50 frame) ≡ true
+  pub run-over : completes (waitsFor (heardAt 4294967250 frame)) (heardAt 50 frame) ≡ true
 
 -- where none waits, none is completed; and by another frame neither
 pub record NoPair (heard : Heard) : Type 0 where

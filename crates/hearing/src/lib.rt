@@ -22,3 +22,4 @@ pub use pairs::waits_for;
 pub use rooms::Heard;
 pub use rooms::Waiting;
 pub use rooms::Who;
+pub use rooms::heard_at;
