@@ -1,11 +1,12 @@
 -- RESET MEMORY BANK and power-on, for the store: which values are put anew, and with what. Paper 01, "State and
 -- clock" and "Commands obeyed".
 -- Assumes nothing.
-use Prim.Native.Nat.{ℕ, _-_, _/_}
-use mathlib.Core.Bool.{Bool, _&&_}
+use mathlib.Core.Path.{_≡_}
+use Prim.Native.Nat.{ℕ, _-_, _/_, _<_}
+use mathlib.Core.Bool.{Bool, false, _&&_}
 use mathlib.Core.List.{List, [], _∷_}
 use lib.Dec.{leb, eqb}
-use lib.ListN.{length}
+use lib.ListN.{length, getD}
 use Rattle.laws.specs.Choice.{if_then_else_}
 use Rattle.laws.specs.Lists.{items}
 use Rattle.banks.specs.Map.{recordAt, recordsOf, writable}
@@ -52,3 +53,11 @@ filledOf rs store image filling = filledBy (chosen rs store filling) image store
 abbrev pub filledFrom : List ℕ → List ℕ → List ℕ → Filling → ℕ → List ℕ
 filledFrom map store image filling i =
     filledBy (chosen (recordsOf map) store filling) image store (items (recordAt map) i (length map / 8 - i))
+
+-- which of the records are chosen, by their numbers
+abbrev pub PickedTo : List ℕ → List ℕ → Filling → List Bool → ℕ → Type 0
+PickedTo map store filling picks n =
+    (j : ℕ) → j < n → getD picks j false ≡ chosen (recordsOf map) store filling (recordAt map j)
+
+abbrev pub Picked : List ℕ → List ℕ → Filling → List Bool → Type 0
+Picked map store filling picks = (length picks ≡ 64) × PickedTo map store filling picks (length map / 8)

@@ -6,7 +6,7 @@ ghost use lib.ListN.{length};
 ghost use Rattle.banks.specs.Map.{recordsOf, placesEnd};
 ghost use Rattle.banks.specs.Rules.{placed};
 ghost use Rattle.banks.specs.Lookup.{putValue};
-ghost use Rattle.memory.specs.Filled.{selects, chosen, fresh, filledFrom, filledOf};
+ghost use Rattle.memory.specs.Filled.{selects, chosen, fresh, Picked, filledOf};
 use crate::parts::put_value;
 use banks::Record;
 use banks::is_lock;
@@ -58,19 +58,20 @@ fn freshen(store: &mut [u8], image: &[u8], r: Record)
     put_value(store, r, &image[at..end]);
 }
 
-// Internal: the records from number i on. Which are chosen is decided on the way down, before anything is stored.
-fn fill_from(map: &[u8], store: &mut [u8], image: &[u8], filling: Filling, i: usize)
-    requires { ⌜ (placed (now map) (length (now store)) ≡ true) × (length (now image) ≡ length (now store)) ⌝ }
-    ensures { λ _. ⌜ now (store .exit) ≡ filledFrom (now (map .entry)) (now (store .entry)) (now (image .entry)) filling i ⌝ }
+// Internal: which records are chosen, by their numbers.
+fn choices(map: &[u8], store: &[u8], filling: Filling) -> [bool; 64]
+    requires { ⌜ placed (now map) (length (now store)) ≡ true ⌝ }
+    ensures { λ picks. ⌜ Picked (now (map .entry)) (now (store .entry)) filling picks ⌝ }
 {
-    if i < records(map) {
+    let mut picks = [false; 64];
+    let n = records(map);
+    let mut i = 0;
+    while i < n {
         let r = record_at(map, i);
-        let such = is_chosen(map, store, filling, r);
-        fill_from(map, store, image, filling, i + 1);
-        if such {
-            freshen(store, image, r);
-        }
+        picks[i] = is_chosen(map, store, filling, r);
+        i += 1;
     }
+    picks
 }
 
 // Internal: each value that is chosen takes its fresh bytes. Map, store and image have passed 7 to 10.
@@ -78,5 +79,13 @@ pub fn fill_store(map: &[u8], store: &mut [u8], image: &[u8], filling: Filling)
     requires { ⌜ (placed (now map) (length (now store)) ≡ true) × (length (now image) ≡ length (now store)) ⌝ }
     ensures { λ _. ⌜ now (store .exit) ≡ filledOf (recordsOf (now (map .entry))) (now (store .entry)) (now (image .entry)) filling ⌝ }
 {
-    fill_from(map, store, image, filling, 0);
+    let picks = choices(map, store, filling);
+    let mut i = records(map);
+    while 0 < i {
+        i -= 1;
+        if picks[i] {
+            let r = record_at(map, i);
+            freshen(store, image, r);
+        }
+    }
 }
