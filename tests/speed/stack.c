@@ -1,11 +1,13 @@
-/* The stack that each call of the C library needs, in bytes: it runs on a stack of its own that was painted before, and
-   the lowest byte that it wrote counts. Worst over random units, each with a start, a reset of all its banks, and a
-   list of frames. */
+/* stack LIMIT: the stack that each call of the C library needs, in bytes: it runs on a stack of its own that was painted
+   before, and the lowest byte that it wrote counts. Worst over random units, each with a start, a reset of all its banks,
+   and a list of frames. To be linked with its symbols bound at once: the lazy binding of a first call would count too.
+   The status is 1 where a call needs more than the limit, or no unit had 64 records. */
 #define _XOPEN_SOURCE 700
 #include "inputs.h"
 
 #include <inttypes.h>
 #include <stdio.h>
+#include <stdlib.h>
 #include <string.h>
 #include <ucontext.h>
 
@@ -122,9 +124,9 @@ static void reset_all(void)
     hear(RESET_BANK);
 }
 
-int main(void)
+int main(int count, char **words)
 {
-    size_t full = 0, least = 0, deepest = 0;
+    size_t full = 0, least = 0, deepest = 0, limit = count == 2 ? strtoul(words[1], NULL, 10) : 0;
     begin(1);
     for (uint32_t i = 0; i < UNITS; i++) {
         Plan plan = {{0}, 0, 0};
@@ -143,5 +145,5 @@ int main(void)
         deepest = calls[i].worst - least > deepest ? calls[i].worst - least : deepest;
     }
     printf("stack of the deepest call: %zu bytes (%d units, %zu of them with 64 records)\n", deepest, UNITS, full);
-    return full == 0;
+    return full == 0 || deepest > limit;
 }
