@@ -13,14 +13,16 @@ use Rattle.laws.proofs.Tests.{both, and-of, clash, denied}
 use Rattle.laws.proofs.Items.{every-at}
 use Rattle.laws.proofs.Sides.{and-left, and-right, chosen, same-test}
 use Rattle.laws.proofs.Members.{some-at, some-of}
-use Rattle.banks.specs.Map.{recordsOf, writable}
-use Rattle.banks.specs.Rules.{ordered, isHead, isLock, bankHas, bankHolds, banksHold}
-use Rattle.banks.specs.Lookup.{holds, holder}
-use Rattle.banks.specs.Facts.{Member, Holds, LockRecord}
+use Rattle.records.specs.Map.{recordsOf, writable}
+use Rattle.records.specs.Order.{ordered}
+use Rattle.records.specs.Lookup.{holds, holder}
+use Rattle.records.specs.Facts.{Member, Holds}
+use Rattle.records.specs.declared.record.Record.{Record}
+use Rattle.records.specs.declared.holder.Found.the-variants.{At, Nothing}
+use Rattle.records.proofs.Locations.{holds-is, is-holding, holder-at, holder-none, holder-hit, mapped-member}
+use Rattle.banks.specs.Rules.{isHead, isLock, bankHas, bankHolds, banksHold}
+use Rattle.banks.specs.Facts.{LockRecord}
 use Rattle.banks.specs.Promises.{HasLock, WritableBank}
-use Rattle.banks.specs.declared.record.Record.{Record}
-use Rattle.banks.specs.declared.holder.Found.the-variants.{At, Nothing}
-use Rattle.banks.proofs.Locations.{holds-is, is-holding, holder-at, holder-none, holder-hit, mapped-member}
 
 -- a test that only a record of width 1 at that location passes
 abbrev Single : (Record → Bool) → ℕ → Type 0

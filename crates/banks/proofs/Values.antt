@@ -14,16 +14,19 @@ use Rattle.laws.proofs.Sides.{and-left, and-right}
 use Rattle.laws.proofs.Members.{every-same}
 use Rattle.laws.proofs.Parts.{part-stays, part-put, length-put}
 use Rattle.laws.proofs.PartBytes.{first-byte, byte-stays}
-use Rattle.banks.specs.Map.{recordsOf, writable, placesEnd}
+use Rattle.records.specs.Map.{recordsOf, writable, placesEnd}
+use Rattle.records.specs.Lookup.{holder}
+use Rattle.records.specs.Facts.{Member}
+use Rattle.records.specs.declared.record.Record.{Record}
+use Rattle.records.specs.declared.holder.Found.{Found}
+use Rattle.records.specs.declared.holder.Found.the-variants.{At, Nothing}
+use Rattle.records.proofs.Members.{member-fields}
+use Rattle.records.proofs.Locations.{holder-at}
 use Rattle.banks.specs.Rules.{placed, isHead, headByteHolds, headHolds, headBytesHold, checkNumber}
-use Rattle.banks.specs.Lookup.{holder, valueOf, putValue, byteAt, lockByte}
-use Rattle.banks.specs.Facts.{Member, Apart}
+use Rattle.banks.specs.Values.{valueOf, putValue, byteAt, lockByte}
+use Rattle.banks.specs.Facts.{Apart}
 use Rattle.banks.specs.Promises.{ValuePut, CheckStays, CheckStaysPut}
-use Rattle.banks.specs.declared.record.Record.{Record}
-use Rattle.banks.specs.declared.holder.Found.{Found}
-use Rattle.banks.specs.declared.holder.Found.the-variants.{At, Nothing}
-use Rattle.banks.proofs.Members.{member-fields, placed-ordered, member-inside, members-apart}
-use Rattle.banks.proofs.Locations.{holder-at}
+use Rattle.banks.proofs.Places.{placed-ordered, member-inside, members-apart}
 use Rattle.banks.proofs.HeadsAndLocks.{single-head}
 
 -- the byte at a value's place is the first of its bytes

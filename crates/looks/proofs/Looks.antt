@@ -16,15 +16,18 @@ use Rattle.laws.proofs.Numbers.{exactly-if}
 use Rattle.laws.proofs.Parts.{length-part}
 use Rattle.laws.proofs.Settled.{settles}
 use Rattle.laws.proofs.Joined.{joined-none, joined-some}
-use Rattle.banks.specs.Map.{recordsOf}
-use Rattle.banks.specs.Rules.{checkTests, checkNumber, ordered}
-use Rattle.banks.specs.Lookup.{beginner, valueOf}
-use Rattle.banks.specs.Facts.{Member}
-use Rattle.banks.specs.declared.record.Record.{Record}
-use Rattle.banks.specs.declared.holder.Found.{Found}
-use Rattle.banks.specs.declared.holder.Found.the-variants.{At, Nothing}
-use Rattle.banks.proofs.Members.{member-fields, member-inside}
-use Rattle.banks.proofs.Locations.{holds-is, holder-at, holder-within, beginner-at, first-found}
+use Rattle.records.specs.Map.{recordsOf}
+use Rattle.records.specs.Order.{ordered}
+use Rattle.records.specs.Lookup.{beginner}
+use Rattle.records.specs.Facts.{Member}
+use Rattle.records.specs.declared.record.Record.{Record}
+use Rattle.records.specs.declared.holder.Found.{Found}
+use Rattle.records.specs.declared.holder.Found.the-variants.{At, Nothing}
+use Rattle.records.proofs.Members.{member-fields}
+use Rattle.records.proofs.Locations.{holds-is, holder-at, beginner-at, first-found}
+use Rattle.banks.specs.Rules.{checkTests, checkNumber}
+use Rattle.banks.specs.Values.{valueOf}
+use Rattle.banks.proofs.Places.{member-inside, holder-within}
 use Rattle.banks.proofs.Standing.{stands, is-standing}
 use Rattle.looks.specs.Look.{isFound, lookTests, lookNumber, refusedLook, placeOf, lookOf, lookBytes}
 use Rattle.looks.specs.Promises.{Shows, LookNumbers, LookStands, LookShows, LookEmpty}

@@ -9,11 +9,11 @@ use lib.ListN.{length}
 use Rattle.laws.specs.Choice.{if_then_else_}
 use Rattle.laws.specs.Parts.{part}
 use Rattle.laws.specs.Numbers.{Test, test, firstFailing}
-use Rattle.banks.specs.Map.{recordsOf}
+use Rattle.records.specs.Map.{recordsOf}
+use Rattle.records.specs.Lookup.{beginner}
+use Rattle.records.specs.declared.holder.Found.{Found}
+use Rattle.records.specs.declared.holder.Found.the-variants.{At, Nothing}
 use Rattle.banks.specs.Rules.{checkTests}
-use Rattle.banks.specs.Lookup.{beginner}
-use Rattle.banks.specs.declared.holder.Found.{Found}
-use Rattle.banks.specs.declared.holder.Found.the-variants.{At, Nothing}
 use Rattle.looks.specs.declared.looked.Looked.{Looked}
 
 -- a value was found

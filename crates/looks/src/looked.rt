@@ -1,11 +1,11 @@
 // The look calls: the stored bytes of a value that begins at a given bank and location. They have no image: the store
 // stands for it.
 ghost use mathlib.Core.Path.{_≡_};
-ghost use Rattle.banks.specs.Lookup.{ifFirst};
+ghost use Rattle.records.specs.Lookup.{ifFirst};
 ghost use Rattle.looks.specs.Look.{lookNumber, refusedLook, placeOf, lookOf, lookBytes};
-use banks::Found;
 use banks::check_number;
-use banks::lookup;
+use records::Found;
+use records::lookup;
 
 // The number of a look, and the place of the value; a refusal has no place.
 pub struct Looked {

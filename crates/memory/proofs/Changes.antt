@@ -11,11 +11,11 @@ use lib.Seq.{length-take-le}
 use Rattle.laws.specs.Choice.{if_then_else_}
 use Rattle.laws.specs.Outcome.{Outcome}
 use Rattle.laws.proofs.Tests.{clash}
-use Rattle.banks.specs.Map.{recordsOf, writable}
+use Rattle.records.specs.Map.{recordsOf, writable}
+use Rattle.records.specs.declared.record.Record.{Record}
 use Rattle.banks.specs.Rules.{placed}
-use Rattle.banks.specs.Lookup.{putValue}
-use Rattle.banks.specs.declared.record.Record.{Record}
-use Rattle.banks.proofs.Locations.{holder-within}
+use Rattle.banks.specs.Values.{putValue}
+use Rattle.banks.proofs.Places.{holder-within}
 use Rattle.banks.proofs.Standing.{stands, is-standing}
 use Rattle.banks.proofs.Values.{value-put, check-stays-put}
 use Rattle.memory.specs.Staged.{bytesWith}

@@ -14,18 +14,18 @@ use Rattle.laws.specs.Choice.{if_then_else_}
 use Rattle.laws.specs.Outcome.{Outcome, leaves}
 use Rattle.laws.proofs.Tests.{if-eq}
 use Rattle.laws.proofs.Sides.{and-left, and-right, chosen}
-use Rattle.banks.specs.Map.{recordsOf, writable, locationsEnd}
+use Rattle.records.specs.Map.{recordsOf, writable, locationsEnd}
+use Rattle.records.specs.Lookup.{beginner}
+use Rattle.records.specs.declared.record.Record.{Record}
+use Rattle.records.specs.declared.holder.Found.{Found}
+use Rattle.records.specs.declared.holder.Found.the-variants.{At, Nothing}
+use Rattle.records.proofs.Locations.{first-found}
 use Rattle.banks.specs.Rules.{placed}
-use Rattle.banks.specs.Lookup.{beginner, valueOf, putValue}
+use Rattle.banks.specs.Values.{valueOf, putValue, padded}
 use Rattle.banks.specs.Facts.{Within}
-use Rattle.banks.specs.declared.record.Record.{Record}
-use Rattle.banks.specs.declared.holder.Found.{Found}
-use Rattle.banks.specs.declared.holder.Found.the-variants.{At, Nothing}
-use Rattle.banks.proofs.Members.{placed-ordered}
-use Rattle.banks.proofs.Locations.{first-found, holder-within}
+use Rattle.banks.proofs.Places.{placed-ordered, holder-within}
 use Rattle.banks.proofs.Values.{value-put}
 use Rattle.memory.specs.Staged.{noneStaged, unlocked, bytesWith, stagedOf, wrote, writeOf}
-use Rattle.memory.specs.Latched.{padded}
 use Rattle.memory.specs.Rooms.{zeroFrom, stagedIn, stagedHolds}
 use Rattle.memory.specs.Promises.{Takes, bytesTo, NoneStagedHolds, WriteKeepsRule, WriteTakes, WriteValue}
 use Rattle.memory.specs.declared.staged.Staged.{Staged}

@@ -9,10 +9,10 @@ use lib.Dec.{leb, eqb}
 use lib.ListN.{length, getD}
 use Rattle.laws.specs.Choice.{if_then_else_}
 use Rattle.laws.specs.Lists.{items}
-use Rattle.banks.specs.Map.{recordAt, recordsOf, writable}
+use Rattle.records.specs.Map.{recordAt, recordsOf, writable}
+use Rattle.records.specs.declared.record.Record.{Record}
 use Rattle.banks.specs.Rules.{isLock}
-use Rattle.banks.specs.Lookup.{valueOf, putValue, lockByte}
-use Rattle.banks.specs.declared.record.Record.{Record}
+use Rattle.banks.specs.Values.{valueOf, putValue, lockByte}
 use Rattle.memory.specs.declared.filled.Filling.{Filling}
 use Rattle.memory.specs.declared.filled.Filling.the-variants.{PowerOn, Reset}
 

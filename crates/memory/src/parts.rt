@@ -2,10 +2,9 @@
 ghost use mathlib.Core.Path.{_≡_};
 ghost use Prim.Native.Nat.{_+_, _≤_};
 ghost use lib.ListN.{length, take};
-ghost use Rattle.banks.specs.Lookup.{putValue};
-ghost use Rattle.memory.specs.Latched.{padded};
-use banks::Record;
-use banks::places_end;
+ghost use Rattle.banks.specs.Values.{putValue, padded};
+use records::Record;
+use records::places_end;
 
 // Internal: the part takes the bytes, as many as it has room for.
 fn put_part(part: &mut [u8], bytes: &[u8])

@@ -2,16 +2,17 @@
 ghost use mathlib.Core.Path.{_≡_};
 ghost use mathlib.Core.Bool.{true};
 ghost use lib.ListN.{length};
-ghost use Rattle.banks.specs.Map.{recordsOf};
-ghost use Rattle.banks.specs.Rules.{placed, ordered};
-ghost use Rattle.banks.specs.Lookup.{beginner};
+ghost use Rattle.records.specs.Map.{recordsOf};
+ghost use Rattle.records.specs.Order.{ordered};
+ghost use Rattle.records.specs.Lookup.{beginner};
+ghost use Rattle.banks.specs.Rules.{placed};
 ghost use Rattle.memory.specs.Rooms.{zeroFrom, stagedIn, stagedHolds, latchedIn, latchHolds};
 use crate::latched::Latch;
 use crate::staged::Staged;
 use crate::staged::is_unlocked;
-use banks::Found;
-use banks::is_writable;
-use banks::lookup;
+use records::Found;
+use records::is_writable;
+use records::lookup;
 
 // The bytes are zero from number `used` on.
 fn is_zero_from(bytes: [u8; 8], used: usize) -> bool

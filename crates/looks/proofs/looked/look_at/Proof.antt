@@ -1,7 +1,7 @@
 -- `looks::looked::look_at` meets its contract.
 -- Assumes nothing.
 use mathlib.Core.Path.{sym, _∙_}
-use Rattle.banks.specs.Lookup.{beginner}
+use Rattle.records.specs.Lookup.{beginner}
 use Rattle.banks.proofs.Standing.{stands}
 use Rattle.looks.proofs.Looks.{look-refused, look-sound}
 use Rattle.looks.proofs.looked.look_at.Statement.{statement}

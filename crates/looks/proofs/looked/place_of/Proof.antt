@@ -2,7 +2,7 @@
 -- Assumes nothing.
 use mathlib.Core.Logic.{⊎-elim}
 use borrow.Author.Tests.{eq-eqb, ne-eqb}
-use Rattle.banks.specs.Lookup.{ifFirst}
+use Rattle.records.specs.Lookup.{ifFirst}
 use borrow.Author.Needs.{needs}
 use Rattle.looks.proofs.looked.place_of.Statement.{statement}
 use Rattle.looks.proofs.looked.place_of.Tie as tie

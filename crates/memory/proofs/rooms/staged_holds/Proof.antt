@@ -1,7 +1,7 @@
 -- `memory::rooms::staged_holds` meets its contract.
 -- Assumes nothing.
 use borrow.Author.Tests.{eq-eqb, ne-eqb}
-use Rattle.banks.proofs.Members.{placed-ordered}
+use Rattle.banks.proofs.Places.{placed-ordered}
 use Rattle.memory.specs.Rooms.{stagedHolds}
 use borrow.Author.Needs.{needs}
 use Rattle.memory.proofs.rooms.staged_holds.Statement.{statement}

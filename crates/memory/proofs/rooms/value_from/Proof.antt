@@ -2,7 +2,7 @@
 -- Assumes nothing.
 use mathlib.Core.Path.{sym, _∙_}
 use borrow.Author.Tests.{eq-eqb, ne-eqb}
-use Rattle.banks.specs.Lookup.{ifFirst, beginner}
+use Rattle.records.specs.Lookup.{ifFirst, beginner}
 use borrow.Author.Needs.{needs}
 use Rattle.memory.proofs.rooms.value_from.Statement.{statement}
 use Rattle.memory.proofs.rooms.value_from.Tie as tie
