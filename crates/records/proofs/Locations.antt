@@ -18,6 +18,7 @@ use Rattle.records.specs.Lookup.{holds, holder, ifFirst, beginner}
 use Rattle.records.specs.Facts.{Before, Holds}
 use Rattle.records.specs.Promises.{HolderHit, HolderNone, FirstFound, MappedMember}
 use Rattle.records.specs.declared.record.Record.{Record}
+use Rattle.records.specs.declared.holder.Beginning.the-variants.{Begins}
 use Rattle.records.specs.declared.holder.Found.{Found}
 use Rattle.records.specs.declared.holder.Found.the-variants.{At, Nothing}
 use Rattle.records.proofs.Members.{before-is, rising-all, rising-tail, rises, member-fields}
@@ -99,16 +100,19 @@ mapped-member map bank = (
 )
 
 -- the value that begins at a location is the one that holds it, where it begins there
-if-first-at : (location : ℕ) (f : Found) (r : Record) → ifFirst location f ≡ At r → (f ≡ At r) × (r .first ≡ location)
+if-first-at : (location : ℕ) (f : Found) (r : Record) → ifFirst location f ≡ Begins r
+    → (f ≡ At r) × (r .first ≡ location)
 unfolding ifFirst
 if-first-at location (At x) r e =
     ⊎-elim
-    (λ q. (q .1, let same : r ≡ x = cc in ap (λ (y : Record). y .first) same ∙ eqb-true (x .first) location (q .0)))
+    (λ q.
+    let same : r ≡ x = cc in
+    (ap At (sym same), ap (λ (y : Record). y .first) same ∙ eqb-true (x .first) location (q .0)))
     (λ q. let z : _≡_ {A = ℕ} 0 1 = cc in absurd (omega arith))
     (chosen (eqb (x .first) location) e)
 if-first-at location Nothing r e = let z : _≡_ {A = ℕ} 0 1 = cc in absurd (omega arith)
 
-pub beginner-at : (rs : List Record) (bank location : ℕ) (r : Record) → beginner rs bank location ≡ At r
+pub beginner-at : (rs : List Record) (bank location : ℕ) (r : Record) → beginner rs bank location ≡ Begins r
     → (holder rs bank location ≡ At r) × (r .first ≡ location)
 unfolding beginner
 beginner-at rs bank location r e = if-first-at location (holder rs bank location) r e

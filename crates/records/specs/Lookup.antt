@@ -1,4 +1,4 @@
--- Which record holds a location. Paper 01, "Map, store, reset image".
+-- Which record holds a location, and which value begins there. Paper 01, "Map, store, reset image".
 -- Assumes nothing.
 use Prim.Native.Nat.{ℕ}
 use mathlib.Core.Bool.{Bool, _&&_}
@@ -7,6 +7,8 @@ use lib.Dec.{leb, ltb, eqb}
 use Rattle.laws.specs.Choice.{if_then_else_}
 use Rattle.records.specs.Map.{locationsEnd}
 use Rattle.records.specs.declared.record.Record.{Record}
+use Rattle.records.specs.declared.holder.Beginning.{Beginning}
+use Rattle.records.specs.declared.holder.Beginning.the-variants.{Begins, NoValue}
 use Rattle.records.specs.declared.holder.Found.{Found}
 use Rattle.records.specs.declared.holder.Found.the-variants.{At, Nothing}
 
@@ -19,11 +21,11 @@ unfoldable pub holder : List Record → ℕ → ℕ → Found
 holder [] bank location = Nothing
 holder (r ∷ rs) bank location = if holds r bank location then At r else holder rs bank location
 
--- of the record that holds a location: the one that begins there, or none
-unfoldable pub ifFirst : ℕ → Found → Found
-ifFirst location (At r) = if eqb (r .first) location then At r else Nothing
-ifFirst location Nothing = Nothing
+-- of the record that holds a location: the value that begins there, or none
+unfoldable pub ifFirst : ℕ → Found → Beginning
+ifFirst location (At r) = if eqb (r .first) location then Begins r else NoValue
+ifFirst location Nothing = NoValue
 
 -- the value that begins at a location
-unfoldable pub beginner : List Record → ℕ → ℕ → Found
+unfoldable pub beginner : List Record → ℕ → ℕ → Beginning
 beginner rs bank location = ifFirst location (holder rs bank location)

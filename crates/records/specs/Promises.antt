@@ -13,6 +13,7 @@ use Rattle.records.specs.Order.{ordered, orderTests, orderNumber}
 use Rattle.records.specs.Lookup.{holds, holder, beginner}
 use Rattle.records.specs.Facts.{Member, Fielded, Before, Holds}
 use Rattle.records.specs.declared.record.Record.{Record}
+use Rattle.records.specs.declared.holder.Beginning.the-variants.{Begins}
 use Rattle.records.specs.declared.holder.Found.the-variants.{At, Nothing}
 
 -- The numbers.
@@ -55,7 +56,7 @@ HolderNone =
 abbrev pub FirstFound : Type 0
 FirstFound =
     (map : List ℕ) → ordered map ≡ true → (r : Record) → Member r map
-    → (holder (recordsOf map) (r .bank) (r .first) ≡ At r) × (beginner (recordsOf map) (r .bank) (r .first) ≡ At r)
+    → (holder (recordsOf map) (r .bank) (r .first) ≡ At r) × (beginner (recordsOf map) (r .bank) (r .first) ≡ Begins r)
 
 -- a bank is mapped exactly if it has a record
 abbrev pub MappedMember : Type 0

@@ -1,9 +1,9 @@
-// Which record holds a location.
+// Which record holds a location, and which value begins there.
 ghost use mathlib.Core.Path.{_≡_};
 ghost use mathlib.Core.Bool.{true};
 ghost use Rattle.records.specs.Map.{recordsOf, mapped};
 ghost use Rattle.records.specs.Order.{ordered};
-ghost use Rattle.records.specs.Lookup.{holds, holder};
+ghost use Rattle.records.specs.Lookup.{holds, holder, beginner};
 use crate::record::Record;
 use crate::record::locations_end;
 use crate::record::record_at;
@@ -12,6 +12,11 @@ use crate::record::records;
 pub enum Found {
     At(Record),
     Nothing,
+}
+
+pub enum Beginning {
+    Begins(Record),
+    NoValue,
 }
 
 // The location lies in the record.
@@ -37,6 +42,21 @@ pub fn lookup(map: &[u8], bank: u8, location: u8) -> Found
         i += 1;
     }
     Found::Nothing
+}
+
+// Internal: the value that begins at the bank and location. The map has passed 7, 8 and 9.
+pub fn value_at(map: &[u8], bank: u8, location: u8) -> Beginning
+    requires { ⌜ ordered (now map) ≡ true ⌝ }
+    ensures { λ b. ⌜ b ≡ beginner (recordsOf (now (map .entry))) bank location ⌝ }
+{
+    match lookup(map, bank, location) {
+        Found::At(r) => if r.first == location {
+            Beginning::Begins(r)
+        } else {
+            Beginning::NoValue
+        },
+        Found::Nothing => Beginning::NoValue,
+    }
 }
 
 // Internal: some record has that bank. The map has passed 7, 8 and 9.

@@ -16,4 +16,4 @@ staged-holds-spec =
     (λ c. rw (eq-eqb _ _ (c .before .before .before .before .if1 .taken), ← c .before .before .is-zero-from .ensures))
     (λ c κs. placed-ordered _ _ (c .before .before .before .before .pre))
     (λ c κs. search needs)
-    (λ c. rw (ne-eqb _ _ (c .before .before .if1 .left), ← c .before .value-from .ensures) (c .staged-in .ensures)))
+    (λ c. rw (ne-eqb _ _ (c .before .before .if1 .left), ← c .before .value-at .ensures) (c .staged-in .ensures)))

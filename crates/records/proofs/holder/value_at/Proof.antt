@@ -1,11 +1,11 @@
--- `memory::rooms::value_from` meets its contract.
+-- `records::holder::value_at` meets its contract.
 -- Assumes nothing.
 use mathlib.Core.Path.{sym, _∙_}
 use borrow.Author.Tests.{eq-eqb, ne-eqb}
 use Rattle.records.specs.Lookup.{ifFirst, beginner}
 use borrow.Author.Needs.{needs}
-use Rattle.memory.proofs.rooms.value_from.Statement.{statement}
-use Rattle.memory.proofs.rooms.value_from.Tie as tie
+use Rattle.records.proofs.holder.value_at.Statement.{statement}
+use Rattle.records.proofs.holder.value_at.Tie as tie
 
 returns : tie.Need-returns
 unfolding beginner ifFirst
@@ -19,9 +19,9 @@ returns-2 c =
     let found = c .before .before .before in
     rw (sym (found .before .before .lookup .ensures) ∙ found .r .given .1, ne-eqb _ _ (c .if1 .left))
 
-pub value-from-spec : {M : Type 1} → statement M
+pub value-at-spec : {M : Type 1} → statement M
 unfolding beginner ifFirst
-value-from-spec =
+value-at-spec =
     tie.close (tie.spec
     (λ c κs. search needs)
     (λ c. search needs)
