@@ -31,6 +31,10 @@ Single such location = (r : Record) → such r ≡ true → (r .first ≡ locati
 pub single-head : Single isHead 0x00
 single-head r e = (search (and-left, and-right, eqb-true), search (and-left, and-right, eqb-true))
 
+-- the byte at 0x00 is not writable
+pub head-fixed : (r : Record) → isHead r ≡ true → writable r ≡ false
+head-fixed r e = let rom : r .kind ≡ 0 = search (and-left, and-right, eqb-true) in rw rom
+
 pub single-lock : Single isLock 0x02
 single-lock r e = (search (and-left, and-right, eqb-true), search (and-left, and-right, eqb-true))
 

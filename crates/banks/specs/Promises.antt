@@ -2,7 +2,7 @@
 -- Assumes nothing.
 use mathlib.Core.Path.{_≡_}
 use mathlib.Core.Logic.{_⊎_, _↔_}
-use mathlib.Core.Bool.{true, false}
+use mathlib.Core.Bool.{true}
 use mathlib.Core.List.{List}
 use Prim.Native.Nat.{ℕ, _≤_, _<_}
 use lib.ListN.{length}
@@ -14,7 +14,7 @@ use Rattle.records.specs.Lookup.{holder}
 use Rattle.records.specs.Facts.{Member}
 use Rattle.records.specs.declared.record.Record.{Record}
 use Rattle.records.specs.declared.holder.Found.the-variants.{At}
-use Rattle.banks.specs.Rules.{placed, banksHold, checkTests, checkNumber}
+use Rattle.banks.specs.Rules.{placed, isHead, banksHold, checkTests, checkNumber}
 use Rattle.banks.specs.Values.{valueOf, putValue}
 use Rattle.banks.specs.Facts.{Stands, Apart, Within, LockRecord, Put}
 
@@ -68,18 +68,18 @@ ValuePut =
     (map store bytes : List ℕ) (r : Record) → placed map (length store) ≡ true → Member r map → length bytes ≡ r .width
     → Put map store bytes r
 
--- two stores of one length that agree on what is not writable get the same number
+-- two stores of one length that agree on the bytes at 0x00 get the same number
 abbrev pub CheckStays : Type 0
 CheckStays =
     (map s t : List ℕ) (kept : ℕ) → length s ≡ length t
-    → ((r : Record) → Member r map → writable r ≡ false → valueOf r s ≡ valueOf r t)
+    → ((r : Record) → Member r map → isHead r ≡ true → valueOf r s ≡ valueOf r t)
     → checkNumber map s kept ≡ checkNumber map t kept
 
--- so a writable value may change: what was checked once stays checked
+-- so a value that is not at 0x00 may change: what was checked once stays checked
 abbrev pub CheckStaysPut : Type 0
 CheckStaysPut =
     (map store bytes : List ℕ) (kept : ℕ) (r : Record) → placed map (length store) ≡ true → Member r map
-    → length bytes ≡ r .width → writable r ≡ true
+    → length bytes ≡ r .width → (r .first ≡ 0x00 → ⊥)
     → checkNumber map (putValue r bytes store) kept ≡ checkNumber map store kept
 
 -- Answers that meet the same promise are equal.

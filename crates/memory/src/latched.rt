@@ -8,7 +8,7 @@ ghost use Rattle.banks.specs.Rules.{placed};
 ghost use Rattle.banks.specs.Values.{valueOf};
 ghost use Rattle.memory.specs.Reach.{Reaches};
 ghost use Rattle.memory.specs.Latched.{noneLatched, latches, latchFrom, shown, showByte, readOf};
-use crate::parts::padded_part;
+use banks::padded_part;
 use records::Found;
 use records::Record;
 use records::lookup;

@@ -1,4 +1,4 @@
--- `memory::parts::padded_part` meets its contract.
+-- `banks::parts::padded_part` meets its contract.
 -- Assumes nothing.
 use Prim.Native.Nat.{_≤_, _<_, _-_}
 use mathlib.Core.Path.{_≡_, refl, _∙_}
@@ -6,8 +6,8 @@ use mathlib.Core.List.{_++_}
 use native.Mathlib.Omega.{arith}
 use lib.ListN.{length, take, drop}
 use Rattle.laws.proofs.Copies.{copy-more, copy-all}
-use Rattle.memory.proofs.parts.padded_part.Statement.{statement}
-use Rattle.memory.proofs.parts.padded_part.Tie as tie
+use Rattle.banks.proofs.parts.padded_part.Statement.{statement}
+use Rattle.banks.proofs.parts.padded_part.Tie as tie
 
 abbrev Inv-loop : tie.InvT-loop
 Inv-loop part bytes₀ i₀ bytes i = (i ≤ length part) × (bytes ≡ take i part ++ drop i bytes₀)

@@ -1,4 +1,4 @@
--- `memory::parts::put_part` meets its contract.
+-- `banks::parts::put_part` meets its contract.
 -- Assumes nothing.
 use Prim.Native.Nat.{ℕ, _≤_, _-_}
 use mathlib.Core.Path.{_≡_, refl, ap, sym, _∙_}
@@ -6,8 +6,8 @@ use mathlib.Core.List.{_++_}
 use native.Mathlib.Omega.{arith}
 use lib.ListN.{length, take, drop, length-set}
 use Rattle.laws.proofs.Copies.{copy-more, copy-full}
-use Rattle.memory.proofs.parts.put_part.Statement.{statement}
-use Rattle.memory.proofs.parts.put_part.Tie as tie
+use Rattle.banks.proofs.parts.put_part.Statement.{statement}
+use Rattle.banks.proofs.parts.put_part.Tie as tie
 
 abbrev Inv-loop : tie.InvT-loop
 Inv-loop part₀ bytes i₀ part i =

@@ -1,10 +1,10 @@
--- `memory::parts::put_value` meets its contract.
+-- `banks::parts::put_value` meets its contract.
 -- Assumes nothing.
 use Rattle.laws.proofs.Copies.{put-back}
 use Rattle.banks.specs.Values.{putValue}
 use borrow.Author.Needs.{needs}
-use Rattle.memory.proofs.parts.put_value.Statement.{statement}
-use Rattle.memory.proofs.parts.put_value.Tie as tie
+use Rattle.banks.proofs.parts.put_value.Statement.{statement}
+use Rattle.banks.proofs.parts.put_value.Tie as tie
 
 returns : tie.Need-returns
 unfolding putValue
