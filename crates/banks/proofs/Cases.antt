@@ -2,9 +2,10 @@
 -- Assumes nothing.
 use mathlib.Core.Path.{refl}
 use Rattle.laws.specs.Numbers.{firstFailing}
-use Rattle.banks.specs.Map.{recordAt, recordsOf}
-use Rattle.banks.specs.Rules.{sizeHolds, lengthsHold, placesHold, bankHolds, banksHold, headByteHolds}
-use Rattle.banks.specs.Rules.{headHolds, headBytesHold, checkNumber}
+use Rattle.records.specs.Map.{recordAt, recordsOf}
+use Rattle.records.specs.Order.{sizeHolds}
+use Rattle.banks.specs.Rules.{lengthsHold, placesHold, bankHolds, banksHold, headByteHolds, headHolds}
+use Rattle.banks.specs.Rules.{headBytesHold, checkNumber}
 use Rattle.banks.specs.Cases.{CheckCases}
 
 pub check-cases : CheckCases

@@ -13,15 +13,18 @@ use Rattle.laws.proofs.Members.{some-of}
 use Rattle.laws.proofs.Parts.{length-part}
 use Rattle.laws.proofs.PartBytes.{first-byte}
 use Rattle.laws.proofs.Sides.{and-left, and-right}
-use Rattle.banks.specs.Map.{recordsOf, writable, placesEnd}
-use Rattle.banks.specs.Rules.{ordered, placed, isLock, banksHold}
-use Rattle.banks.specs.Lookup.{holder, valueOf, byteAt, lockByte}
-use Rattle.banks.specs.Facts.{Member, Holds, LockRecord}
-use Rattle.banks.specs.declared.record.Record.{Record}
-use Rattle.banks.specs.declared.holder.Found.the-variants.{At}
+use Rattle.records.specs.Map.{recordsOf, writable, placesEnd}
+use Rattle.records.specs.Order.{ordered}
+use Rattle.records.specs.Lookup.{holder}
+use Rattle.records.specs.Facts.{Member, Holds}
+use Rattle.records.specs.declared.record.Record.{Record}
+use Rattle.records.specs.declared.holder.Found.the-variants.{At}
+use Rattle.records.proofs.Locations.{holder-hit}
+use Rattle.banks.specs.Rules.{placed, isLock, banksHold}
+use Rattle.banks.specs.Values.{valueOf, byteAt, lockByte}
+use Rattle.banks.specs.Facts.{LockRecord}
 use Rattle.banks.proofs.HeadsAndLocks.{has-lock, writable-bank}
-use Rattle.banks.proofs.Locations.{holder-hit}
-use Rattle.banks.proofs.Members.{placed-ordered, member-inside}
+use Rattle.banks.proofs.Places.{placed-ordered, member-inside}
 
 pub length-value : (r : Record) (store : List ℕ) → placesEnd r ≤ length store → length (valueOf r store) ≡ r .width
 unfolding valueOf

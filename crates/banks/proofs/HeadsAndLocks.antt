@@ -13,14 +13,16 @@ use Rattle.laws.proofs.Tests.{both, and-of, clash, denied}
 use Rattle.laws.proofs.Items.{every-at}
 use Rattle.laws.proofs.Sides.{and-left, and-right, chosen, same-test}
 use Rattle.laws.proofs.Members.{some-at, some-of}
-use Rattle.banks.specs.Map.{recordsOf, writable}
-use Rattle.banks.specs.Rules.{ordered, isHead, isLock, bankHas, bankHolds, banksHold}
-use Rattle.banks.specs.Lookup.{holds, holder}
-use Rattle.banks.specs.Facts.{Member, Holds, LockRecord}
+use Rattle.records.specs.Map.{recordsOf, writable}
+use Rattle.records.specs.Order.{ordered}
+use Rattle.records.specs.Lookup.{holds, holder}
+use Rattle.records.specs.Facts.{Member, Holds}
+use Rattle.records.specs.declared.record.Record.{Record}
+use Rattle.records.specs.declared.holder.Found.the-variants.{At, Nothing}
+use Rattle.records.proofs.Locations.{holds-is, is-holding, holder-at, holder-none, holder-hit, mapped-member}
+use Rattle.banks.specs.Rules.{isHead, isLock, bankHas, bankHolds, banksHold}
+use Rattle.banks.specs.Facts.{LockRecord}
 use Rattle.banks.specs.Promises.{HasLock, WritableBank}
-use Rattle.banks.specs.declared.record.Record.{Record}
-use Rattle.banks.specs.declared.holder.Found.the-variants.{At, Nothing}
-use Rattle.banks.proofs.Locations.{holds-is, is-holding, holder-at, holder-none, holder-hit, mapped-member}
 
 -- a test that only a record of width 1 at that location passes
 abbrev Single : (Record → Bool) → ℕ → Type 0
@@ -28,6 +30,10 @@ Single such location = (r : Record) → such r ≡ true → (r .first ≡ locati
 
 pub single-head : Single isHead 0x00
 single-head r e = (search (and-left, and-right, eqb-true), search (and-left, and-right, eqb-true))
+
+-- the byte at 0x00 is not writable
+pub head-fixed : (r : Record) → isHead r ≡ true → writable r ≡ false
+head-fixed r e = let rom : r .kind ≡ 0 = search (and-left, and-right, eqb-true) in rw rom
 
 pub single-lock : Single isLock 0x02
 single-lock r e = (search (and-left, and-right, eqb-true), search (and-left, and-right, eqb-true))

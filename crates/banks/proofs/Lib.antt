@@ -1,6 +1,4 @@
-pub mod Walk
-pub mod Members
-pub mod Locations
+pub mod Places
 pub mod HeadsAndLocks
 pub mod Standing
 pub mod Values

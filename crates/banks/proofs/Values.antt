@@ -6,24 +6,24 @@ use mathlib.Core.Bool.{Bool, true, false, not, _||_}
 use mathlib.Core.List.{List}
 use Prim.Native.Nat.{ℕ, _+_, _≤_, _<_}
 use native.Mathlib.Omega.{arith}
-use borrow.Author.Tests.{eqb-true}
 use lib.ListN.{length, getD}
 use Rattle.laws.specs.Parts.{part, put}
-use Rattle.laws.proofs.Tests.{clash}
-use Rattle.laws.proofs.Sides.{and-left, and-right}
 use Rattle.laws.proofs.Members.{every-same}
 use Rattle.laws.proofs.Parts.{part-stays, part-put, length-put}
 use Rattle.laws.proofs.PartBytes.{first-byte, byte-stays}
-use Rattle.banks.specs.Map.{recordsOf, writable, placesEnd}
+use Rattle.records.specs.Map.{recordsOf, placesEnd}
+use Rattle.records.specs.Lookup.{holder}
+use Rattle.records.specs.Facts.{Member}
+use Rattle.records.specs.declared.record.Record.{Record}
+use Rattle.records.specs.declared.holder.Found.{Found}
+use Rattle.records.specs.declared.holder.Found.the-variants.{At, Nothing}
+use Rattle.records.proofs.Members.{member-fields}
+use Rattle.records.proofs.Locations.{holder-at}
 use Rattle.banks.specs.Rules.{placed, isHead, headByteHolds, headHolds, headBytesHold, checkNumber}
-use Rattle.banks.specs.Lookup.{holder, valueOf, putValue, byteAt, lockByte}
-use Rattle.banks.specs.Facts.{Member, Apart}
+use Rattle.banks.specs.Values.{valueOf, putValue, byteAt, lockByte}
+use Rattle.banks.specs.Facts.{Apart}
 use Rattle.banks.specs.Promises.{ValuePut, CheckStays, CheckStaysPut}
-use Rattle.banks.specs.declared.record.Record.{Record}
-use Rattle.banks.specs.declared.holder.Found.{Found}
-use Rattle.banks.specs.declared.holder.Found.the-variants.{At, Nothing}
-use Rattle.banks.proofs.Members.{member-fields, placed-ordered, member-inside, members-apart}
-use Rattle.banks.proofs.Locations.{holder-at}
+use Rattle.banks.proofs.Places.{placed-ordered, member-inside, members-apart}
 use Rattle.banks.proofs.HeadsAndLocks.{single-head}
 
 -- the byte at a value's place is the first of its bytes
@@ -79,8 +79,8 @@ value-put map store bytes r p m w =
       as-long = length-put (r .offset) bytes store;
     }
 
--- rule 11 reads the store only at records of kind ROM
-head-stays : (rs : List Record) (s t : List ℕ) (r : Record) → (writable r ≡ false → valueOf r s ≡ valueOf r t)
+-- rule 11 reads the store only at 0x00
+head-stays : (rs : List Record) (s t : List ℕ) (r : Record) → (isHead r ≡ true → valueOf r s ≡ valueOf r t)
     → headHolds rs s r ≡ headHolds rs t r
 unfolding headHolds
 head-stays rs s t r h = go (isHead r) refl
@@ -89,11 +89,9 @@ head-stays rs s t r h = go (isHead r) refl
         (getD s (r .offset) 0)) ≡ (not b || headByteHolds rs (r .bank) (getD t (r .offset) 0))
     go false e = refl
     go true e =
-        let rom : r .kind ≡ 0 = search (and-left, and-right, eqb-true) in
         let w = single-head r e .1 in
         ap (headByteHolds rs (r .bank))
-        (sym (value-byte r s (omega arith)) ∙ ap (λ (v : List ℕ). getD v 0 0) (h (rw rom)) ∙ value-byte r t
-        (omega arith))
+        (sym (value-byte r s (omega arith)) ∙ ap (λ (v : List ℕ). getD v 0 0) (h e) ∙ value-byte r t (omega arith))
 
 pub check-stays : CheckStays
 unfolding checkNumber headBytesHold
@@ -108,4 +106,4 @@ pub check-stays-put : CheckStaysPut
 check-stays-put map store bytes kept r p m w k =
     let put = value-put map store bytes r p m w in
     check-stays map (putValue r bytes store) store kept (put .as-long)
-    (λ s i n. put .others s i (λ e. clash (writable s) (ap writable e ∙ k) n))
+    (λ s i h. put .others s i (λ e. k (ap (λ (x : Record). x .first) (sym e) ∙ single-head s h .0)))

@@ -1,37 +1,20 @@
--- Worked cases: paper 01's bench map and its neighbours at each boundary, with the number that each must get. One table
--- and one statement.
+-- Worked cases: paper 01's bench map and its neighbours at each boundary of 10 and 11, with the number that each must
+-- get. One table and one statement.
 -- Assumes nothing.
 use mathlib.Core.Path.{_≡_}
 use mathlib.Core.List.{List, [], _∷_, _++_, map}
 use Prim.Native.Nat.{ℕ}
 use lib.ListN.{length, replicate}
+use Rattle.records.specs.Cases.{row, head, lock, with, benchMap}
 use Rattle.banks.specs.Rules.{checkNumber}
 
--- a record of the map: bank, first location, width, kind, lockable, zero, store offset
-abbrev row : ℕ → ℕ → ℕ → ℕ → ℕ → ℕ → ℕ → ℕ → List ℕ
-row bank first width kind lockable fifth high low = bank ∷ first ∷ width ∷ kind ∷ lockable ∷ fifth ∷ high ∷ low ∷ []
-
--- the byte at 0x00 and the lock byte of a bank, at the first two places of the store
-abbrev head : ℕ → List ℕ
-head bank = row bank 0x00 1 0 0 0 0 0
-
-abbrev lock : ℕ → List ℕ
-lock bank = row bank 0x02 1 2 0 0 0 1
-
--- the bench map and its store
-abbrev pub benchMap : List ℕ
-benchMap = head 2 ++ lock 2 ++ row 2 0x03 4 4 1 0 0 2
-
+-- the store of the bench map
 abbrev pub benchStore : List ℕ
 benchStore = 0x06 ∷ 0xFF ∷ 0x00 ∷ 0x00 ∷ 0x00 ∷ 0x64 ∷ []
 
 -- a store whose first byte is the one at 0x00, and n bytes after it
 abbrev pub stored : ℕ → ℕ → List ℕ
 stored byte n = byte ∷ replicate n 0
-
--- bank 2 with more values
-abbrev with : List ℕ → List ℕ
-with values = head 2 ++ lock 2 ++ values
 
 pub record CheckCase : Type 0 where
   pub records : List ℕ
@@ -45,36 +28,15 @@ checked records store number = record { records = records; store = store; kept =
 abbrev pub checkCases : List CheckCase
 checkCases =
     checked benchMap benchStore 0
-    -- 7: no record, parts of a record, 64 and 65 records
     ∷ checked [] [] 0
-    ∷ checked (replicate 7 0) [] 7
-    ∷ checked (benchMap ++ 0 ∷ []) benchStore 7
-    ∷ checked (replicate 512 0) [] 8
-    ∷ checked (replicate 520 0) [] 7
-    -- 8: bank, width, last location, kind, lockable, zero
+    -- the boundaries of 7 to 9, from within
     ∷ checked (head 199 ++ lock 199) (stored 3 1) 0
-    ∷ checked (head 200 ++ lock 200) (stored 3 1) 8
-    ∷ checked (with (row 2 0x03 0 4 0 0 0 2)) (stored 20 20) 8
     ∷ checked (with (row 2 0x03 1 4 0 0 0 2)) (stored 20 20) 0
     ∷ checked (with (row 2 0x03 8 4 0 0 0 2)) (stored 20 20) 0
-    ∷ checked (with (row 2 0x03 9 4 0 0 0 2)) (stored 20 20) 8
     ∷ checked (with (row 2 0xFE 1 4 0 0 0 2)) (stored 254 20) 0
-    ∷ checked (with (row 2 0xFF 1 4 0 0 0 2)) (stored 254 20) 8
     ∷ checked (with (row 2 0xF7 8 4 0 0 0 2)) (stored 254 20) 0
-    ∷ checked (with (row 2 0xF8 8 4 0 0 0 2)) (stored 254 20) 8
-    ∷ checked (with (row 2 0x03 1 5 0 0 0 2)) (stored 20 20) 8
     ∷ checked (with (row 2 0x03 1 2 1 0 0 2)) (stored 20 20) 0
-    ∷ checked (with (row 2 0x03 1 4 2 0 0 2)) (stored 20 20) 8
-    ∷ checked (with (row 2 0x03 1 0 1 0 0 2)) (stored 20 20) 8
-    ∷ checked (with (row 2 0x03 1 1 1 0 0 2)) (stored 20 20) 8
-    ∷ checked (with (row 2 0x03 1 3 1 0 0 2)) (stored 20 20) 8
-    ∷ checked (with (row 2 0x03 1 4 0 1 0 2)) (stored 20 20) 8
-    -- 9: order of banks and of locations, and locations shared
-    ∷ checked (lock 2 ++ head 2) (stored 20 20) 9
     ∷ checked (head 2 ++ lock 2 ++ row 3 0x00 1 0 0 0 0 2 ++ row 3 0x02 1 2 0 0 0 3) (20 ∷ 0 ∷ stored 20 20) 0
-    ∷ checked (row 3 0x00 1 0 0 0 0 2 ++ row 3 0x02 1 2 0 0 0 3 ++ head 2 ++ lock 2) (20 ∷ 0 ∷ stored 20 20) 9
-    ∷ checked (with (row 2 0x02 1 4 0 0 0 2)) (stored 20 20) 9
-    ∷ checked (with (row 2 0x03 4 4 0 0 0 2 ++ row 2 0x06 1 4 0 0 0 6)) (stored 20 20) 9
     ∷ checked (with (row 2 0x03 4 4 0 0 0 2 ++ row 2 0x07 1 4 0 0 0 6)) (stored 20 20) 0
     -- 10: lengths, 4,096 and 4,097 bytes, places outside and shared
     ∷ record { records = benchMap; store = benchStore; kept = 7; number = 10 }

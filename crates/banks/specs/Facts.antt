@@ -1,20 +1,19 @@
--- What the rules 7 to 11 say, as facts about numbers: the floors above lean on these, and not on the tests.
+-- What the rules 10 and 11 say, as facts about numbers: the floors above lean on these, and not on the tests.
 -- Assumes nothing.
 use mathlib.Core.Path.{_≡_}
 use mathlib.Core.Logic.{_⊎_}
 use mathlib.Core.Bool.{true}
-use mathlib.Core.List.{List, List·Memᴰ}
+use mathlib.Core.List.{List}
 use Prim.Native.Nat.{ℕ, _≤_, _<_}
 use lib.ListN.{length, getD}
-use Rattle.banks.specs.Map.{recordsOf, writable, locationsEnd, placesEnd}
-use Rattle.banks.specs.Rules.{ordered, placed, banksHold, headBytesHold}
-use Rattle.banks.specs.Lookup.{holder, valueOf, putValue, lockByte}
-use Rattle.banks.specs.declared.record.Record.{Record}
-use Rattle.banks.specs.declared.holder.Found.the-variants.{At}
-
--- a record of the map
-abbrev pub Member : Record → List ℕ → Type 0
-Member r map = List·Memᴰ r (recordsOf map)
+use Rattle.records.specs.Map.{recordsOf, placesEnd}
+use Rattle.records.specs.Order.{ordered}
+use Rattle.records.specs.Lookup.{holder}
+use Rattle.records.specs.Facts.{Member, Fielded, Holds}
+use Rattle.records.specs.declared.record.Record.{Record}
+use Rattle.records.specs.declared.holder.Found.the-variants.{At}
+use Rattle.banks.specs.Rules.{placed, banksHold, headBytesHold}
+use Rattle.banks.specs.Values.{valueOf, putValue, lockByte}
 
 -- map, store and an image of `kept` bytes pass 7 to 11
 pub record Stands (map store : List ℕ) (kept : ℕ) : Type 0 where
@@ -24,28 +23,9 @@ pub record Stands (map store : List ℕ) (kept : ℕ) : Type 0 where
   pub banks : banksHold (recordsOf map) ≡ true
   pub heads : headBytesHold (recordsOf map) store ≡ true
 
--- 8
-pub record Fielded (r : Record) : Type 0 where
-  pub low-bank : r .bank ≤ 199
-  pub some-width : 1 ≤ r .width
-  pub most-width : r .width ≤ 8
-  pub last : locationsEnd r ≤ 0xFF
-  pub low-kind : r .kind ≤ 4
-  pub locks : (r .lockable ≡ 0) ⊎ ((r .lockable ≡ 1) × (writable r ≡ true))
-
--- 9
-abbrev pub Before : Record → Record → Type 0
-Before p r = (p .bank < r .bank) ⊎ ((p .bank ≡ r .bank) × (locationsEnd p ≤ r .first))
-
 -- 10
 abbrev pub Apart : Record → Record → Type 0
 Apart p r = (placesEnd p ≤ r .offset) ⊎ (placesEnd r ≤ p .offset)
-
--- the location lies in the record
-pub record Holds (r : Record) (bank location : ℕ) : Type 0 where
-  pub same-bank : r .bank ≡ bank
-  pub from : r .first ≤ location
-  pub to : location < locationsEnd r
 
 -- what is known of the record that holds a location, in a map whose places lie in a store of n bytes
 pub record Within (map : List ℕ) (n bank location : ℕ) (r : Record) : Type 0 where

@@ -1,6 +1,5 @@
-pub mod Map
 pub mod Rules
-pub mod Lookup
+pub mod Values
 pub mod Facts
 pub mod Promises
 pub mod Cases

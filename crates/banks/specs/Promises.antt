@@ -1,19 +1,22 @@
--- What is proved of the definitions: the numbers, the records, the values. The proofs stand in proofs/.
+-- What is proved of map, store and image: the numbers, the places, lock bytes, the values. The proofs stand in proofs/.
 -- Assumes nothing.
 use mathlib.Core.Path.{_≡_}
 use mathlib.Core.Logic.{_⊎_, _↔_}
-use mathlib.Core.Bool.{true, false}
-use mathlib.Core.List.{List, []}
-use Prim.Native.Nat.{ℕ, _/_, _≤_, _<_}
+use mathlib.Core.Bool.{true}
+use mathlib.Core.List.{List}
+use Prim.Native.Nat.{ℕ, _≤_, _<_}
 use lib.ListN.{length}
 use Rattle.laws.specs.Numbers.{Given}
 use Rattle.laws.specs.Settled.{Settles}
-use Rattle.banks.specs.Map.{recordAt, recordsOf, writable, placesEnd, mapped}
-use Rattle.banks.specs.Rules.{ordered, placed, banksHold, checkTests, checkNumber}
-use Rattle.banks.specs.Lookup.{holds, holder, beginner, valueOf, putValue}
-use Rattle.banks.specs.Facts.{Member, Stands, Fielded, Before, Apart, Holds, Within, LockRecord, Put}
-use Rattle.banks.specs.declared.record.Record.{Record}
-use Rattle.banks.specs.declared.holder.Found.the-variants.{At, Nothing}
+use Rattle.records.specs.Map.{recordsOf, writable, placesEnd, mapped}
+use Rattle.records.specs.Order.{ordered}
+use Rattle.records.specs.Lookup.{holder}
+use Rattle.records.specs.Facts.{Member}
+use Rattle.records.specs.declared.record.Record.{Record}
+use Rattle.records.specs.declared.holder.Found.the-variants.{At}
+use Rattle.banks.specs.Rules.{placed, isHead, banksHold, checkTests, checkNumber}
+use Rattle.banks.specs.Values.{valueOf, putValue}
+use Rattle.banks.specs.Facts.{Stands, Apart, Within, LockRecord, Put}
 
 -- The numbers.
 
@@ -27,17 +30,7 @@ CheckNumbers =
 abbrev pub CheckStands : Type 0
 CheckStands = (map store : List ℕ) (kept : ℕ) → (checkNumber map store kept ≡ 0) ↔ Stands map store kept
 
--- The records of a map.
-
--- 8
-abbrev pub MemberFields : Type 0
-MemberFields = (map : List ℕ) → ordered map ≡ true → (r : Record) → Member r map → Fielded r
-
--- 9: of two records the one with the lower number stands before
-abbrev pub MembersRise : Type 0
-MembersRise =
-    (map : List ℕ) → ordered map ≡ true → (i j : ℕ) → i < j → j < length map / 8
-    → Before (recordAt map i) (recordAt map j)
+-- The places of the records.
 
 -- 10
 abbrev pub MemberInside : Type 0
@@ -48,37 +41,11 @@ MembersApart =
     (map : List ℕ) (n : ℕ) → placed map n ≡ true → (r s : Record) → Member r map → Member s map
     → (r ≡ s) ⊎ Apart r s
 
--- The record that holds a location.
-
 -- what is found is a record of the map, and holds the location
 abbrev pub HolderWithin : Type 0
 HolderWithin =
     (map : List ℕ) (n bank location : ℕ) → placed map n ≡ true
     → (r : Record) → holder (recordsOf map) bank location ≡ At r → Within map n bank location r
-
--- a location lies in at most one record: one that holds it is what is found
-abbrev pub HolderHit : Type 0
-HolderHit =
-    (map : List ℕ) → ordered map ≡ true → (bank location : ℕ) (r : Record) → Member r map → Holds r bank location
-    → holder (recordsOf map) bank location ≡ At r
-
--- nothing is found exactly if no record holds it
-abbrev pub HolderNone : Type 0
-HolderNone =
-    (map : List ℕ) (bank location : ℕ)
-    → (holder (recordsOf map) bank location ≡ Nothing) ↔ ((r : Record) → Member r map → holds r bank location ≡ false)
-
--- a record is found at its first location, and begins there
-abbrev pub FirstFound : Type 0
-FirstFound =
-    (map : List ℕ) → ordered map ≡ true → (r : Record) → Member r map
-    → (holder (recordsOf map) (r .bank) (r .first) ≡ At r) × (beginner (recordsOf map) (r .bank) (r .first) ≡ At r)
-
--- a bank is mapped exactly if it has a record
-abbrev pub MappedMember : Type 0
-MappedMember =
-    (map : List ℕ) (bank : ℕ)
-    → (mapped (recordsOf map) bank ≡ true) ↔ ((r : Record) × Member r map × (r .bank ≡ bank))
 
 -- Lock bytes.
 
@@ -101,18 +68,18 @@ ValuePut =
     (map store bytes : List ℕ) (r : Record) → placed map (length store) ≡ true → Member r map → length bytes ≡ r .width
     → Put map store bytes r
 
--- two stores of one length that agree on what is not writable get the same number
+-- two stores of one length that agree on the bytes at 0x00 get the same number
 abbrev pub CheckStays : Type 0
 CheckStays =
     (map s t : List ℕ) (kept : ℕ) → length s ≡ length t
-    → ((r : Record) → Member r map → writable r ≡ false → valueOf r s ≡ valueOf r t)
+    → ((r : Record) → Member r map → isHead r ≡ true → valueOf r s ≡ valueOf r t)
     → checkNumber map s kept ≡ checkNumber map t kept
 
--- so a writable value may change: what was checked once stays checked
+-- so a value that is not at 0x00 may change: what was checked once stays checked
 abbrev pub CheckStaysPut : Type 0
 CheckStaysPut =
     (map store bytes : List ℕ) (kept : ℕ) (r : Record) → placed map (length store) ≡ true → Member r map
-    → length bytes ≡ r .width → writable r ≡ true
+    → length bytes ≡ r .width → (r .first ≡ 0x00 → ⊥)
     → checkNumber map (putValue r bytes store) kept ≡ checkNumber map store kept
 
 -- Answers that meet the same promise are equal.

@@ -1,43 +1,17 @@
--- The rules 7 to 11 of map, store and reset image, each over everything. Paper 01, "Map, store, reset image" and
--- "Refusal numbers".
+-- The rules 10 and 11 of map, store and reset image, each over everything, and the number of all three. Paper 01, "Map,
+-- store, reset image" and "Refusal numbers".
 -- Assumes nothing.
-use Prim.Native.Nat.{ℕ, _+_, _%_}
+use Prim.Native.Nat.{ℕ, _+_}
 use mathlib.Core.Bool.{Bool, true, not, _&&_, _||_}
-use mathlib.Core.List.{List, [], _∷_}
-use lib.Dec.{leb, ltb, eqb}
+use mathlib.Core.List.{List, [], _∷_, _++_}
+use lib.Dec.{leb, eqb}
 use lib.ListN.{length, getD}
 use Rattle.laws.specs.Choice.{if_then_else_}
 use Rattle.laws.specs.Lists.{every, some}
 use Rattle.laws.specs.Numbers.{Test, test, firstFailing}
-use Rattle.banks.specs.Map.{recordsOf, writable, locationsEnd, placesEnd}
-use Rattle.banks.specs.declared.record.Record.{Record}
-
--- 7: records of 8 bytes, 0 to 64 of them
-unfoldable pub sizeHolds : ℕ → Bool
-sizeHolds n = eqb (n % 8) 0 && leb n 512
-
--- lockable 0/1; only kinds 2 and 4 may be lockable
-abbrev pub lockableHolds : Record → Bool
-lockableHolds r = eqb (r .lockable) 0 || (eqb (r .lockable) 1 && writable r)
-
--- 8: a record's own fields. Bank at most 199; width 1..8; last location at most 0xFE; kinds 0 to 4; lockable; zero
-abbrev pub fieldsHold : Record → Bool
-fieldsHold r =
-    leb (r .bank) 199 && (leb 1 (r .width) && leb (r .width) 8) && leb (locationsEnd r) (0xFE + 1) && leb (r .kind) 4
-    && lockableHolds r && eqb (r .zero) 0
-
--- 9: p stands before r: a lower bank, or in the same bank a lower first location and no location shared
-abbrev pub before : Record → Record → Bool
-before p r = ltb (p .bank) (r .bank) || (eqb (p .bank) (r .bank) && leb (locationsEnd p) (r .first))
-
--- 9: each record stands before the next
-abbrev pub risingFrom : Record → List Record → Bool
-risingFrom p [] = true
-risingFrom p (r ∷ rs) = before p r && risingFrom r rs
-
-abbrev pub rising : List Record → Bool
-rising [] = true
-rising (r ∷ rs) = risingFrom r rs
+use Rattle.records.specs.Map.{recordsOf, writable, locationsEnd, placesEnd}
+use Rattle.records.specs.Order.{ordered, orderTests}
+use Rattle.records.specs.declared.record.Record.{Record}
 
 -- 10: equally long, 0 to 4,096 bytes
 unfoldable pub lengthsHold : ℕ → ℕ → Bool
@@ -93,22 +67,20 @@ headHolds rs store r = not (isHead r) || headByteHolds rs (r .bank) (getD store 
 unfoldable pub headBytesHold : List Record → List ℕ → Bool
 headBytesHold rs store = every (headHolds rs store) rs
 
--- the tests of map, store and reset image, in paper 01's order. Of the image only the length counts
+-- 10, of a store and an image of so many bytes
+abbrev pub placeTests : List ℕ → ℕ → ℕ → List Test
+placeTests map stored kept = test 10 (placesHold (recordsOf map) stored kept) ∷ []
+
+-- 11
+abbrev pub bankTests : List ℕ → List ℕ → List Test
+bankTests map store = test 11 (banksHold (recordsOf map) && headBytesHold (recordsOf map) store) ∷ []
+
+-- the tests of map, store and reset image, in paper 01's order: 7 to 9, 10, 11. Of the image only the length counts
 abbrev pub checkTests : List ℕ → List ℕ → ℕ → List Test
-checkTests map store kept =
-    test 7 (sizeHolds (length map))
-    ∷ test 8 (every fieldsHold (recordsOf map))
-    ∷ test 9 (rising (recordsOf map))
-    ∷ test 10 (placesHold (recordsOf map) (length store) kept)
-    ∷ test 11 (banksHold (recordsOf map) && headBytesHold (recordsOf map) store)
-    ∷ []
+checkTests map store kept = orderTests map ++ placeTests map (length store) kept ++ bankTests map store
 
 unfoldable pub checkNumber : List ℕ → List ℕ → ℕ → ℕ
 checkNumber map store kept = firstFailing (checkTests map store kept)
-
--- what a lookup rests on: 7, 8 and 9 hold
-unfoldable pub ordered : List ℕ → Bool
-ordered map = sizeHolds (length map) && (every fieldsHold (recordsOf map) && rising (recordsOf map))
 
 -- what a touch of the store rests on: 7 to 10 hold for a store and an image of n bytes
 unfoldable pub placed : List ℕ → ℕ → Bool

@@ -1,91 +1,25 @@
-// The rules 7 to 11 of map, store and reset image, each over everything.
+// The rules 10 and 11 of map, store and reset image, each over everything, and the number of all three.
 ghost use mathlib.Core.Path.{_≡_};
 ghost use mathlib.Core.Bool.{true};
 ghost use Prim.Native.Nat.{_≤_};
 ghost use lib.ListN.{length};
 ghost use Rattle.laws.specs.Lists.{every};
-ghost use Rattle.banks.specs.Map.{recordsFrom, recordsOf, placesEnd};
-ghost use Rattle.banks.specs.Rules.{sizeHolds, lockableHolds, fieldsHold, before, rising, ordered};
+ghost use Rattle.laws.specs.Numbers.{firstFailing};
+ghost use Rattle.records.specs.Map.{recordsFrom, recordsOf, placesEnd};
+ghost use Rattle.records.specs.Order.{ordered};
 ghost use Rattle.banks.specs.Rules.{lengthsHold, inside, clear, disjoint, placesHold, placed};
 ghost use Rattle.banks.specs.Rules.{isHead, isLock, bankHas, bankHolds, banksHold};
-ghost use Rattle.banks.specs.Rules.{endsBy, headByteHolds, headHolds, headBytesHold, checkNumber};
-use crate::holder::Found;
-use crate::holder::lookup;
-use crate::record::Record;
-use crate::record::is_writable;
-use crate::record::locations_end;
-use crate::record::places_end;
-use crate::record::record_at;
-use crate::record::records;
-
-// 7, of a map of n bytes.
-fn size_holds(n: usize) -> bool
-    ensures { λ b. ⌜ b ≡ sizeHolds n ⌝ }
-{
-    (n % 8 == 0) & (n <= 512)
-}
-
-fn lockable_holds(r: Record) -> bool
-    ensures { λ b. ⌜ b ≡ lockableHolds r ⌝ }
-{
-    let writes = is_writable(r);
-    (r.lockable == 0) | ((r.lockable == 1) & writes)
-}
-
-// 8, of one record.
-fn fields_hold(r: Record) -> bool
-    ensures { λ b. ⌜ b ≡ fieldsHold r ⌝ }
-{
-    let width = (1 <= r.width) & (r.width <= 8);
-    let end = locations_end(r);
-    let locks = lockable_holds(r);
-    (r.bank <= 199) & width & (end <= 0xFE + 1) & (r.kind <= 4) & locks & (r.zero == 0)
-}
-
-// 8.
-fn all_fields_hold(map: &[u8]) -> bool
-    ensures { λ b. ⌜ b ≡ every fieldsHold (recordsOf (now (map .entry))) ⌝ }
-{
-    let n = records(map);
-    let mut i = 0;
-    while i < n {
-        let r = record_at(map, i);
-        if !fields_hold(r) {
-            return false;
-        }
-        i += 1;
-    }
-    true
-}
-
-// 9, of a record and the next.
-fn stands_before(p: Record, r: Record) -> bool
-    ensures { λ b. ⌜ b ≡ before p r ⌝ }
-{
-    let end = locations_end(p);
-    (p.bank < r.bank) | ((p.bank == r.bank) & (end <= r.first as usize))
-}
-
-// 9.
-fn is_rising(map: &[u8]) -> bool
-    ensures { λ b. ⌜ b ≡ rising (recordsOf (now (map .entry))) ⌝ }
-{
-    let n = records(map);
-    if n == 0 {
-        return true;
-    }
-    let mut last = record_at(map, 0);
-    let mut i = 1;
-    while i < n {
-        let r = record_at(map, i);
-        if !stands_before(last, r) {
-            return false;
-        }
-        last = r;
-        i += 1;
-    }
-    true
-}
+ghost use Rattle.banks.specs.Rules.{endsBy, headByteHolds, headHolds, headBytesHold};
+ghost use Rattle.banks.specs.Rules.{placeTests, bankTests, checkNumber};
+use records::Found;
+use records::Record;
+use records::is_writable;
+use records::locations_end;
+use records::lookup;
+use records::order_number;
+use records::places_end;
+use records::record_at;
+use records::records;
 
 // 10, of the lengths of store and image.
 fn lengths_hold(stored: usize, kept: usize) -> bool
@@ -294,22 +228,21 @@ pub fn head_bytes_hold(map: &[u8], store: &[u8]) -> bool
     true
 }
 
-// Internal: the number of map, store and an image of `kept` bytes, for those who have no image at hand.
-pub fn check_number(map: &[u8], store: &[u8], kept: usize) -> u8
-    ensures { λ r. ⌜ r ≡ checkNumber (now (map .entry)) (now (store .entry)) kept ⌝ }
+// The number of 10, or 0.
+fn place_number(map: &[u8], stored: usize, kept: usize) -> u8
+    ensures { λ r. ⌜ r ≡ firstFailing (placeTests (now (map .entry)) stored kept) ⌝ }
 {
-    if !size_holds(map.len()) {
-        return 7;
-    }
-    if !all_fields_hold(map) {
-        return 8;
-    }
-    if !is_rising(map) {
-        return 9;
-    }
-    if !places_hold(map, store.len(), kept) {
+    if !places_hold(map, stored, kept) {
         return 10;
     }
+    0
+}
+
+// Internal: the number of 11, or 0. Map and store have passed 7 to 10.
+fn bank_number(map: &[u8], store: &[u8]) -> u8
+    requires { ⌜ placed (now map) (length (now store)) ≡ true ⌝ }
+    ensures { λ r. ⌜ r ≡ firstFailing (bankTests (now (map .entry)) (now (store .entry))) ⌝ }
+{
     if !banks_hold(map) {
         return 11;
     }
@@ -317,6 +250,21 @@ pub fn check_number(map: &[u8], store: &[u8], kept: usize) -> u8
         return 11;
     }
     0
+}
+
+// Internal: the number of map, store and an image of `kept` bytes, for those who have no image at hand.
+pub fn check_number(map: &[u8], store: &[u8], kept: usize) -> u8
+    ensures { λ r. ⌜ r ≡ checkNumber (now (map .entry)) (now (store .entry)) kept ⌝ }
+{
+    let order = order_number(map);
+    if order != 0 {
+        return order;
+    }
+    let place = place_number(map, store.len(), kept);
+    if place != 0 {
+        return place;
+    }
+    bank_number(map, store)
 }
 
 // The number of map, store and reset image: 7 to 11, or 0.

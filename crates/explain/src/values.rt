@@ -2,7 +2,7 @@
 ghost use Rattle.io.specs.Counts.{Counts};
 use crate::line::Line;
 use crate::words::say_refusal;
-use banks::Record;
+use records::Record;
 
 // A missing file counts as empty: nothing is read from what could not be opened.
 fn read_file(name: &[u8], room: &mut [u8]) -> usize
@@ -38,11 +38,11 @@ fn show_each(map: &[u8], before: &[u8], after: &[u8]) {
         say_refusal(Line::new(), number).print();
         return;
     }
-    let n = banks::records(map);
+    let n = records::records(map);
     let mut i = 0;
     while i < n {
-        let r = banks::record_at(map, i);
-        if banks::is_writable(r) {
+        let r = records::record_at(map, i);
+        if records::is_writable(r) {
             let old = looks::look(map, before, r.bank, r.first);
             show_value(r, old, looks::look(map, after, r.bank, r.first));
         }

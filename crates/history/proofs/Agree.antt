@@ -9,8 +9,8 @@ use native.Mathlib.Omega.{arith}
 use lib.ListN.{length}
 use Rattle.laws.specs.Choice.{if_then_else_}
 use Rattle.laws.specs.Outcome.{Outcome}
-use Rattle.banks.specs.Map.{recordsOf, mapped}
-use Rattle.banks.specs.declared.record.Record.{Record}
+use Rattle.records.specs.Map.{recordsOf, mapped}
+use Rattle.records.specs.declared.record.Record.{Record}
 use Rattle.banks.specs.Facts.{Stands}
 use Rattle.memory.specs.Staged.{noneStaged, writeOf}
 use Rattle.memory.specs.Filled.{filledOf}

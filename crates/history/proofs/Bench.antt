@@ -14,9 +14,9 @@ use Rattle.laws.proofs.Tests.{both}
 use Rattle.frames.specs.Kind.{kindOf}
 use Rattle.frames.specs.Read as read
 use Rattle.frames.specs.Values.{targetAt}
-use Rattle.banks.specs.Map.{recordAt, recordsOf}
-use Rattle.banks.specs.declared.record.Record.{Record}
-use Rattle.banks.specs.Facts.{Fielded}
+use Rattle.records.specs.Map.{recordAt, recordsOf}
+use Rattle.records.specs.declared.record.Record.{Record}
+use Rattle.records.specs.Facts.{Fielded}
 use Rattle.memory.proofs.ForHistoryStaged.{taking, unfinished}
 use Rattle.hearing.specs.Meaning.{deviceCommand, firstSpecial, specialCommand, meaningOf}
 use Rattle.hearing.specs.Pairs.{passed, inTime}

@@ -9,10 +9,11 @@ use Rattle.laws.specs.Parts.{part, put}
 use Rattle.frames.specs.Kind.{kindOf}
 use Rattle.frames.specs.Read as read
 use Rattle.frames.specs.Values.{targetAt}
-use Rattle.banks.specs.Lookup.{holder, ifFirst, beginner, valueOf, putValue, byteAt, lockByte}
-use Rattle.banks.specs.Map.{recordAt, recordsOf}
-use Rattle.banks.specs.Rules.{sizeHolds, lengthsHold, placesHold, bankHolds, banksHold, headByteHolds, headHolds}
-use Rattle.banks.specs.Rules.{headBytesHold}
+use Rattle.records.specs.Lookup.{holder, ifFirst, beginner}
+use Rattle.records.specs.Map.{recordAt, recordsOf}
+use Rattle.records.specs.Order.{sizeHolds}
+use Rattle.banks.specs.Values.{valueOf, putValue, byteAt, lockByte}
+use Rattle.banks.specs.Rules.{lengthsHold, placesHold, bankHolds, banksHold, headByteHolds, headHolds, headBytesHold}
 use Rattle.memory.specs.Filled.{selects, chosen, fresh, filledOf}
 use Rattle.memory.specs.Rooms.{zeroFrom, stagedIn, stagedHolds, latchedIn, latchHolds}
 use Rattle.memory.specs.Staged.{unlocked, taken, bytesWith, takeByte, writeFound, writeAt, writeOf}

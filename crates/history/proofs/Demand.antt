@@ -8,11 +8,12 @@ use Prim.Native.Nat.{ℕ, suc, _≤_, _<_}
 use native.Mathlib.Omega.{arith}
 use lib.ListN.{length}
 use borrow.Author.Tests.{eq-eqb}
-use Rattle.banks.specs.Map.{recordsOf, writable}
+use Rattle.records.specs.Map.{recordsOf, writable}
+use Rattle.records.specs.Facts.{Member, Fielded}
+use Rattle.records.specs.declared.record.Record.{Record}
 use Rattle.banks.specs.Rules.{isLock}
-use Rattle.banks.specs.Lookup.{valueOf}
-use Rattle.banks.specs.Facts.{Member, Fielded, Stands, LockRecord}
-use Rattle.banks.specs.declared.record.Record.{Record}
+use Rattle.banks.specs.Values.{valueOf}
+use Rattle.banks.specs.Facts.{Stands, LockRecord}
 use Rattle.banks.proofs.ForHistory.{lock-of}
 use Rattle.memory.proofs.ForHistoryFilled.{fresh-lock, power-value}
 use Rattle.hearing.specs.declared.rooms.Who.{Who}

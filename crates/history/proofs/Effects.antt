@@ -9,12 +9,13 @@ use lib.Dec.{ltb, eqb}
 use lib.ListN.{length}
 use borrow.Author.Tests.{eq-eqb}
 use Rattle.laws.specs.Choice.{if_then_else_}
-use Rattle.banks.specs.Map.{recordsOf, writable}
-use Rattle.banks.specs.Lookup.{valueOf, lockByte}
-use Rattle.banks.specs.Facts.{Member, Stands, LockRecord}
-use Rattle.banks.specs.declared.record.Record.{Record}
+use Rattle.records.specs.Map.{recordsOf, writable}
+use Rattle.records.specs.Facts.{Member}
+use Rattle.records.specs.declared.record.Record.{Record}
+use Rattle.records.proofs.Members.{member-fields}
+use Rattle.banks.specs.Values.{valueOf, lockByte}
+use Rattle.banks.specs.Facts.{Stands, LockRecord}
 use Rattle.banks.proofs.ForHistory.{lock-record, is-lock, lock-value}
-use Rattle.banks.proofs.Members.{member-fields}
 use Rattle.memory.specs.Rooms.{stagedHolds}
 use Rattle.memory.specs.Staged.{noneStaged, unlocked}
 use Rattle.memory.specs.Filled.{selects, filledOf}

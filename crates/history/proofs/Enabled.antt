@@ -9,8 +9,8 @@ use Prim.Native.Nat.{ℕ, _<_}
 use native.Mathlib.Omega.{arith}
 use lib.ListN.{length}
 use Rattle.laws.proofs.Tests.{both, clash, if-by}
-use Rattle.banks.specs.Map.{mapped}
-use Rattle.banks.specs.declared.record.Record.{Record}
+use Rattle.records.specs.Map.{mapped}
+use Rattle.records.specs.declared.record.Record.{Record}
 use Rattle.hearing.specs.Meaning.{closes}
 use Rattle.hearing.specs.declared.rooms.Who.{Who}
 use Rattle.hearing.specs.declared.rooms.Heard.{Heard}

@@ -11,9 +11,9 @@ use lib.ListN.{length, length-append}
 use borrow.Author.Tests.{eqb-true, ltb-true, eq-eqb, ne-eqb}
 use Rattle.laws.specs.Choice.{if_then_else_}
 use Rattle.laws.proofs.Sides.{or-left, or-right}
-use Rattle.banks.specs.Map.{writable}
-use Rattle.banks.specs.declared.record.Record.{Record}
-use Rattle.banks.specs.Facts.{Fielded}
+use Rattle.records.specs.Map.{writable}
+use Rattle.records.specs.declared.record.Record.{Record}
+use Rattle.records.specs.Facts.{Fielded}
 use Rattle.memory.proofs.ForHistoryStaged.{taking, unfinished, unfinished-short, taking-first, taking-next, Taking}
 use Rattle.memory.proofs.ForHistoryStaged.{begins, goes-on, misses, takings}
 use Rattle.hearing.specs.declared.rooms.Who.{Who}

@@ -5,11 +5,12 @@ use mathlib.Core.Bool.{true, false}
 use mathlib.Core.List.{List, [], _∷_}
 use Prim.Native.Nat.{ℕ}
 use lib.ListN.{length}
-use Rattle.banks.specs.Map.{recordsOf, writable}
-use Rattle.banks.specs.Lookup.{valueOf, lockByte}
-use Rattle.banks.specs.Facts.{Member, Fielded, Stands}
-use Rattle.banks.specs.declared.record.Record.{Record}
-use Rattle.banks.proofs.Members.{member-fields}
+use Rattle.records.specs.Map.{recordsOf, writable}
+use Rattle.records.specs.Facts.{Member, Fielded}
+use Rattle.records.specs.declared.record.Record.{Record}
+use Rattle.records.proofs.Members.{member-fields}
+use Rattle.banks.specs.Values.{valueOf, lockByte}
+use Rattle.banks.specs.Facts.{Stands}
 use Rattle.memory.specs.Staged.{noneStaged, unlocked}
 use Rattle.memory.specs.Rooms.{stagedHolds}
 use Rattle.memory.specs.declared.staged.Staged.{Staged}

@@ -13,7 +13,7 @@ use lib.Seq.{getD-append-seam, drop-cons, take-suc, take-all, length-take-le}
 use borrow.Author.Tests.{eq-eqb, ne-eqb, ltb-true, ltb-false}
 use Rattle.laws.specs.Choice.{if_then_else_}
 use Rattle.laws.proofs.Tests.{clash}
-use Rattle.banks.specs.declared.record.Record.{Record}
+use Rattle.records.specs.declared.record.Record.{Record}
 use Rattle.hearing.specs.declared.rooms.Who.{Who}
 use Rattle.unit.specs.Run.{Input, power-on}
 use Rattle.history.specs.Deeds.{Deed, opens, resets, puts, keeps, breaks, powers, keeping}

@@ -6,8 +6,8 @@ use mathlib.Core.List.{List, [], _∷_}
 use Prim.Native.Nat.{ℕ}
 use lib.Dec.{eqb}
 use Rattle.laws.specs.Choice.{if_then_else_}
-use Rattle.banks.specs.Lookup.{valueOf}
-use Rattle.banks.specs.declared.record.Record.{Record}
+use Rattle.records.specs.declared.record.Record.{Record}
+use Rattle.banks.specs.Values.{valueOf}
 use Rattle.memory.specs.Filled.{selects, fresh}
 use Rattle.memory.proofs.ForHistoryStaged.{taking, unfinished, finished}
 use Rattle.hearing.specs.declared.rooms.Who.{Who}

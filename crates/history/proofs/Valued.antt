@@ -11,8 +11,8 @@ use lib.Dec.{ltb, eqb}
 use lib.ListN.{length}
 use borrow.Author.Tests.{eqb-true, eqb-false, ltb-true, ltb-false, eq-eqb, le-ltb}
 use Rattle.laws.proofs.Tests.{both, and-of, clash}
-use Rattle.banks.specs.declared.record.Record.{Record}
-use Rattle.banks.specs.Facts.{Fielded}
+use Rattle.records.specs.declared.record.Record.{Record}
+use Rattle.records.specs.Facts.{Fielded}
 use Rattle.memory.specs.Filled.{selects, fresh}
 use Rattle.memory.proofs.ForHistoryStaged.{taking, finished}
 use Rattle.hearing.specs.declared.rooms.Who.{Who}

@@ -4,7 +4,7 @@ use mathlib.Core.Path.{_≡_, refl, sym, _∙_}
 use mathlib.Core.List.{List, [], _∷_, reverse, List·Memᴰ, List·Memᴰ·head, List·Memᴰ·tail}
 use Prim.Native.Nat.{ℕ}
 use native.Mathlib.Omega.{arith}
-use Rattle.banks.specs.Map.{recordAt, recordsOf}
+use Rattle.records.specs.Map.{recordAt, recordsOf}
 use Rattle.unit.specs.Bench.{benchMap, benchStore, benchImage, benchWho}
 use Rattle.unit.specs.Run.{Input}
 use Rattle.history.specs.Bench.{p11Frames, p12Frames, benchValue, p11Twice}

@@ -3,8 +3,8 @@
 use mathlib.Core.List.{List, [], _∷_, _++_, reverse}
 use Prim.Native.Nat.{ℕ, suc, _<_}
 use lib.ListN.{length}
-use Rattle.banks.specs.Map.{recordsOf}
-use Rattle.banks.specs.declared.record.Record.{Record}
+use Rattle.records.specs.Map.{recordsOf}
+use Rattle.records.specs.declared.record.Record.{Record}
 use Rattle.unit.specs.Run.{Input}
 use Rattle.unit.specs.Bench.{benchMap, benchWho, at, enabledBy, lastFrame}
 use Rattle.history.specs.Writing.{past, WritingAt}

@@ -4,8 +4,8 @@ use Prim.Native.Nat.{ℕ}
 use mathlib.Core.Bool.{Bool, true, false, _&&_}
 use mathlib.Core.List.{List}
 use Rattle.laws.specs.Choice.{if_then_else_}
-use Rattle.banks.specs.Map.{mapped}
-use Rattle.banks.specs.declared.record.Record.{Record}
+use Rattle.records.specs.Map.{mapped}
+use Rattle.records.specs.declared.record.Record.{Record}
 use Rattle.hearing.specs.Meaning.{closes}
 use Rattle.hearing.specs.declared.rooms.Who.{Who}
 use Rattle.hearing.specs.declared.meaning.Once.{Once}

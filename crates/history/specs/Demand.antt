@@ -6,10 +6,10 @@ use mathlib.Core.Bool.{true, false}
 use mathlib.Core.List.{List, [], _∷_, reverse, List·Memᴰ}
 use Prim.Native.Nat.{ℕ, _<_, _≤_}
 use lib.ListN.{length}
-use Rattle.banks.specs.Map.{recordsOf, writable}
+use Rattle.records.specs.Map.{recordsOf, writable}
+use Rattle.records.specs.declared.record.Record.{Record}
 use Rattle.banks.specs.Rules.{isLock}
-use Rattle.banks.specs.Lookup.{valueOf}
-use Rattle.banks.specs.declared.record.Record.{Record}
+use Rattle.banks.specs.Values.{valueOf}
 use Rattle.hearing.specs.declared.rooms.Who.{Who}
 use Rattle.unit.specs.Run.{Input, runOf}
 use Rattle.history.specs.Lock.{lock}

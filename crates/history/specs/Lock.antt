@@ -7,7 +7,7 @@ use mathlib.Core.List.{List, [], _∷_}
 use Prim.Native.Nat.{ℕ}
 use lib.Dec.{eqb}
 use Rattle.laws.specs.Choice.{if_then_else_}
-use Rattle.banks.specs.declared.record.Record.{Record}
+use Rattle.records.specs.declared.record.Record.{Record}
 use Rattle.memory.specs.Filled.{selects}
 use Rattle.hearing.specs.declared.rooms.Who.{Who}
 use Rattle.unit.specs.Run.{Input}

@@ -5,8 +5,8 @@ use mathlib.Core.Path.{_≡_}
 use mathlib.Core.List.{List, _∷_}
 use Prim.Native.Nat.{ℕ, suc, _<_}
 use lib.ListN.{length}
-use Rattle.banks.specs.Lookup.{valueOf}
-use Rattle.banks.specs.declared.record.Record.{Record}
+use Rattle.records.specs.declared.record.Record.{Record}
+use Rattle.banks.specs.Values.{valueOf}
 use Rattle.memory.specs.Filled.{fresh}
 use Rattle.hearing.specs.declared.rooms.Who.{Who}
 use Rattle.unit.specs.Run.{Input, power-on}

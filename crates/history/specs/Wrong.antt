@@ -7,11 +7,11 @@ use lib.Dec.{leb, eqb}
 use lib.ListN.{take}
 use Rattle.laws.specs.Choice.{if_then_else_}
 use Rattle.laws.specs.Parts.{put}
-use Rattle.banks.specs.Map.{recordsOf}
-use Rattle.banks.specs.Lookup.{holder}
-use Rattle.banks.specs.declared.record.Record.{Record}
-use Rattle.banks.specs.declared.holder.Found.{Found}
-use Rattle.banks.specs.declared.holder.Found.the-variants.{At, Nothing}
+use Rattle.records.specs.Map.{recordsOf}
+use Rattle.records.specs.Lookup.{holder}
+use Rattle.records.specs.declared.record.Record.{Record}
+use Rattle.records.specs.declared.holder.Found.{Found}
+use Rattle.records.specs.declared.holder.Found.the-variants.{At, Nothing}
 use Rattle.memory.specs.declared.staged.Staged.{Staged}
 use Rattle.rooms.specs.declared.state.State.{State}
 use Rattle.history.specs.Machine.{Left, Machine, unitMachine}

@@ -3,10 +3,10 @@
 use mathlib.Core.Path.{refl}
 use Rattle.laws.specs.Parts.{part}
 use Rattle.laws.specs.Numbers.{firstFailing}
-use Rattle.banks.specs.Map.{recordAt, recordsOf}
-use Rattle.banks.specs.Rules.{sizeHolds, lengthsHold, placesHold, bankHolds, banksHold, headByteHolds}
-use Rattle.banks.specs.Rules.{headHolds, headBytesHold}
-use Rattle.banks.specs.Lookup.{holder, ifFirst, beginner}
+use Rattle.records.specs.Map.{recordAt, recordsOf}
+use Rattle.records.specs.Order.{sizeHolds}
+use Rattle.records.specs.Lookup.{holder, ifFirst, beginner}
+use Rattle.banks.specs.Rules.{lengthsHold, placesHold, bankHolds, banksHold, headByteHolds, headHolds, headBytesHold}
 use Rattle.looks.specs.Look.{lookNumber, lookOf, lookBytes}
 use Rattle.looks.specs.Cases.{LookCases}
 

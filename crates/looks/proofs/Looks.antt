@@ -16,15 +16,18 @@ use Rattle.laws.proofs.Numbers.{exactly-if}
 use Rattle.laws.proofs.Parts.{length-part}
 use Rattle.laws.proofs.Settled.{settles}
 use Rattle.laws.proofs.Joined.{joined-none, joined-some}
-use Rattle.banks.specs.Map.{recordsOf}
-use Rattle.banks.specs.Rules.{checkTests, checkNumber, ordered}
-use Rattle.banks.specs.Lookup.{beginner, valueOf}
-use Rattle.banks.specs.Facts.{Member}
-use Rattle.banks.specs.declared.record.Record.{Record}
-use Rattle.banks.specs.declared.holder.Found.{Found}
-use Rattle.banks.specs.declared.holder.Found.the-variants.{At, Nothing}
-use Rattle.banks.proofs.Members.{member-fields, member-inside}
-use Rattle.banks.proofs.Locations.{holds-is, holder-at, holder-within, beginner-at, first-found}
+use Rattle.records.specs.Map.{recordsOf}
+use Rattle.records.specs.Order.{ordered}
+use Rattle.records.specs.Lookup.{beginner}
+use Rattle.records.specs.Facts.{Member}
+use Rattle.records.specs.declared.record.Record.{Record}
+use Rattle.records.specs.declared.holder.Beginning.{Beginning}
+use Rattle.records.specs.declared.holder.Beginning.the-variants.{Begins, NoValue}
+use Rattle.records.proofs.Members.{member-fields}
+use Rattle.records.proofs.Locations.{holds-is, holder-at, beginner-at, first-found}
+use Rattle.banks.specs.Rules.{checkTests, checkNumber}
+use Rattle.banks.specs.Values.{valueOf}
+use Rattle.banks.proofs.Places.{member-inside, holder-within}
 use Rattle.banks.proofs.Standing.{stands, is-standing}
 use Rattle.looks.specs.Look.{isFound, lookTests, lookNumber, refusedLook, placeOf, lookOf, lookBytes}
 use Rattle.looks.specs.Promises.{Shows, LookNumbers, LookStands, LookShows, LookEmpty}
@@ -32,10 +35,10 @@ use Rattle.looks.specs.Promises.{LookAtSettled, LookNumberSettled, LookS
 use Rattle.looks.specs.declared.looked.Looked.{Looked}
 
 -- a number and a place, as one
-placed-or-14 : (f : Found) (n : ℕ) → n ≡ (if isFound f then 0 else 14)
+placed-or-14 : (f : Beginning) (n : ℕ) → n ≡ (if isFound f then 0 else 14)
     → (if eqb n 0 then placeOf f else refusedLook n) ≡ placeOf f
-placed-or-14 (At r) n e = rw e
-placed-or-14 Nothing n e = rw e
+placed-or-14 (Begins r) n e = rw e
+placed-or-14 NoValue n e = rw e
 
 module _ (map store : List ℕ) (bank location : ℕ) where
   -- what comes after 7 to 11
@@ -67,9 +70,9 @@ module _ (map store : List ℕ) (bank location : ℕ) where
   pub look-number-is : lookOf map store bank location .number ≡ lookNumber map store bank location
   look-number-is = go (checkNumber map store (length store)) refl
     where
-      of-found : (f : Found) → placeOf f .number ≡ (if isFound f then 0 else 14)
-      of-found (At r) = refl
-      of-found Nothing = refl
+      of-found : (f : Beginning) → placeOf f .number ≡ (if isFound f then 0 else 14)
+      of-found (Begins r) = refl
+      of-found NoValue = refl
 
       go : (n : ℕ) → checkNumber map store (length store) ≡ n
           → lookOf map store bank location .number ≡ lookNumber map store bank location
@@ -80,12 +83,12 @@ module _ (map store : List ℕ) (bank location : ℕ) where
   pub look-inside : lookOf map store bank location .offset + lookOf map store bank location .width ≤ length store
   look-inside = go (checkNumber map store (length store)) refl
     where
-      of-found : checkNumber map store (length store) ≡ 0 → (f : Found) → beginner (recordsOf map) bank location ≡ f
+      of-found : checkNumber map store (length store) ≡ 0 → (f : Beginning) → beginner (recordsOf map) bank location ≡ f
           → placeOf f .offset + placeOf f .width ≤ length store
-      of-found e (At r) q =
+      of-found e (Begins r) q =
           holder-within map (length store) bank location (stands map store (length store) e .in-place) r
           (beginner-at (recordsOf map) bank location r q .0) .inside
-      of-found e Nothing q = omega arith
+      of-found e NoValue q = omega arith
 
       go : (n : ℕ) → checkNumber map store (length store) ≡ n
           → lookOf map store bank location .offset + lookOf map store bank location .width ≤ length store
@@ -119,8 +122,8 @@ look-shows map store bank location e = go (beginner (recordsOf map) bank locatio
     sound : checkNumber map store (length store) ≡ 0
     sound = look-checked map store bank location e
 
-    go : (f : Found) → beginner (recordsOf map) bank location ≡ f → (r : Record) × Shows map store bank location r
-    go (At r) q =
+    go : (f : Beginning) → beginner (recordsOf map) bank location ≡ f → (r : Record) × Shows map store bank location r
+    go (Begins r) q =
         let b = beginner-at (recordsOf map) bank location r q in
         let k = holder-at bank location (recordsOf map) r (b .0) in
         let place = look-sound map store bank location sound ∙ ap placeOf q in (
@@ -133,7 +136,7 @@ look-shows map store bank location e = go (beginner (recordsOf map) bank locatio
             bytes = rw place;
           },
         )
-    go Nothing q =
+    go NoValue q =
         let n = ap {B = ℕ} (λ f. if isFound f then 0 else 14) q in
         absurd (omega (arith, sym e ∙ sound-number map store bank location sound ∙ n))
 

@@ -4,7 +4,8 @@
 use mathlib.Core.Path.{_≡_}
 use mathlib.Core.List.{List, [], _∷_, map}
 use Prim.Native.Nat.{ℕ}
-use Rattle.banks.specs.Cases.{benchMap, benchStore, stored}
+use Rattle.records.specs.Cases.{benchMap}
+use Rattle.banks.specs.Cases.{benchStore, stored}
 use Rattle.looks.specs.Look.{lookNumber, lookOf, lookBytes}
 use Rattle.looks.specs.declared.looked.Looked.{Looked}
 

@@ -9,17 +9,17 @@ use lib.ListN.{length}
 use Rattle.laws.specs.Choice.{if_then_else_}
 use Rattle.laws.specs.Parts.{part}
 use Rattle.laws.specs.Numbers.{Test, test, firstFailing}
-use Rattle.banks.specs.Map.{recordsOf}
+use Rattle.records.specs.Map.{recordsOf}
+use Rattle.records.specs.Lookup.{beginner}
+use Rattle.records.specs.declared.holder.Beginning.{Beginning}
+use Rattle.records.specs.declared.holder.Beginning.the-variants.{Begins, NoValue}
 use Rattle.banks.specs.Rules.{checkTests}
-use Rattle.banks.specs.Lookup.{beginner}
-use Rattle.banks.specs.declared.holder.Found.{Found}
-use Rattle.banks.specs.declared.holder.Found.the-variants.{At, Nothing}
 use Rattle.looks.specs.declared.looked.Looked.{Looked}
 
 -- a value was found
-abbrev pub isFound : Found → Bool
-isFound (At r) = true
-isFound Nothing = false
+abbrev pub isFound : Beginning → Bool
+isFound (Begins r) = true
+isFound NoValue = false
 
 -- 7 to 11, the store standing for the image; then 14: no value begins there
 abbrev pub lookTests : List ℕ → List ℕ → ℕ → ℕ → List Test
@@ -34,9 +34,9 @@ abbrev pub refusedLook : ℕ → Looked
 refusedLook n = record { number = n; width = 0; offset = 0 }
 
 -- of each case its number and values: 0 with the width and offset of the value, or 14
-abbrev pub placeOf : Found → Looked
-placeOf (At r) = record { number = 0; width = r .width; offset = r .offset }
-placeOf Nothing = refusedLook 14
+abbrev pub placeOf : Beginning → Looked
+placeOf (Begins r) = record { number = 0; width = r .width; offset = r .offset }
+placeOf NoValue = refusedLook 14
 
 unfoldable pub lookOf : List ℕ → List ℕ → ℕ → ℕ → Looked
 lookOf map store bank location =

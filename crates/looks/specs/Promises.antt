@@ -7,9 +7,10 @@ use Prim.Native.Nat.{ℕ, _<_}
 use lib.ListN.{length}
 use Rattle.laws.specs.Numbers.{Given}
 use Rattle.laws.specs.Settled.{Settles}
-use Rattle.banks.specs.Lookup.{valueOf}
-use Rattle.banks.specs.Facts.{Member, Stands}
-use Rattle.banks.specs.declared.record.Record.{Record}
+use Rattle.records.specs.Facts.{Member}
+use Rattle.records.specs.declared.record.Record.{Record}
+use Rattle.banks.specs.Values.{valueOf}
+use Rattle.banks.specs.Facts.{Stands}
 use Rattle.looks.specs.Look.{lookTests, lookNumber, lookOf, lookBytes}
 use Rattle.looks.specs.declared.looked.Looked.{Looked}
 

@@ -1,11 +1,10 @@
 // The look calls: the stored bytes of a value that begins at a given bank and location. They have no image: the store
 // stands for it.
 ghost use mathlib.Core.Path.{_≡_};
-ghost use Rattle.banks.specs.Lookup.{ifFirst};
 ghost use Rattle.looks.specs.Look.{lookNumber, refusedLook, placeOf, lookOf, lookBytes};
-use banks::Found;
 use banks::check_number;
-use banks::lookup;
+use records::Beginning;
+use records::value_at;
 
 // The number of a look, and the place of the value; a refusal has no place.
 pub struct Looked {
@@ -24,20 +23,18 @@ fn refused(number: u8) -> Looked
     }
 }
 
-// The place of what holds a location, where it begins there.
-fn place_of(found: Found, location: u8) -> Looked
-    ensures { λ r. ⌜ r ≡ placeOf (ifFirst location found) ⌝ }
+// The place of the value, if one begins there.
+fn place_of(value: Beginning) -> Looked
+    ensures { λ r. ⌜ r ≡ placeOf value ⌝ }
 {
-    if let Found::At(r) = found {
-        if r.first == location {
-            return Looked {
-                number: 0,
-                width: r.width,
-                offset: r.offset,
-            };
-        }
+    match value {
+        Beginning::Begins(r) => Looked {
+            number: 0,
+            width: r.width,
+            offset: r.offset,
+        },
+        Beginning::NoValue => refused(14),
     }
-    refused(14)
 }
 
 // Number, width and offset of the value that begins at the bank and location.
@@ -48,8 +45,8 @@ pub fn look_at(map: &[u8], store: &[u8], bank: u8, location: u8) -> Looked
     if number != 0 {
         return refused(number);
     }
-    let found = lookup(map, bank, location);
-    place_of(found, location)
+    let value = value_at(map, bank, location);
+    place_of(value)
 }
 
 // The number of a look: 7 to 11, then 14, or 0.

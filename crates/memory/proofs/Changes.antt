@@ -11,13 +11,15 @@ use lib.Seq.{length-take-le}
 use Rattle.laws.specs.Choice.{if_then_else_}
 use Rattle.laws.specs.Outcome.{Outcome}
 use Rattle.laws.proofs.Tests.{clash}
-use Rattle.banks.specs.Map.{recordsOf, writable}
+use Rattle.records.specs.Map.{recordsOf, writable}
+use Rattle.records.specs.Facts.{Member}
+use Rattle.records.specs.declared.record.Record.{Record}
 use Rattle.banks.specs.Rules.{placed}
-use Rattle.banks.specs.Lookup.{putValue}
-use Rattle.banks.specs.declared.record.Record.{Record}
-use Rattle.banks.proofs.Locations.{holder-within}
+use Rattle.banks.specs.Values.{valueOf, putValue}
+use Rattle.banks.proofs.Places.{holder-within}
 use Rattle.banks.proofs.Standing.{stands, is-standing}
-use Rattle.banks.proofs.Values.{value-put, check-stays-put}
+use Rattle.banks.proofs.HeadsAndLocks.{head-fixed}
+use Rattle.banks.proofs.Values.{value-put, check-stays}
 use Rattle.memory.specs.Staged.{bytesWith}
 use Rattle.memory.specs.Rooms.{stagedHolds}
 use Rattle.memory.specs.Promises.{ChangesOnly, StandsStays, Takes, TakesLast, WriteChangesOnly}
@@ -63,12 +65,15 @@ module _ (map store : List ℕ) (p : placed map (length store) ≡ true) (g : St
       let q = value-put map store bs r p (w .member) n in
       let writes = taken-is (recordsOf map) store g r location (t .took) .writes in
       let it : changed r = record { takes = t; last = omega arith } in
+      let after : List ℕ = putValue r bs store in
+      let read-only : (s : Record) → Member s map → writable s ≡ false → valueOf s after ≡ valueOf s store =
+      λ s m c. q .others s m (λ x. clash (writable s) (ap writable x ∙ writes) c) in
       record {
         as-long = q .as-long;
         others = λ s m c. q .others s m (λ x. c (subst changed (sym x) it));
-        read-only = λ s m c. q .others s m (λ x. clash (writable s) (ap writable x ∙ writes) c);
+        read-only = read-only;
         unmapped = q .unmapped;
-        checks = λ kept. check-stays-put map store bs kept r p (w .member) n writes;
+        checks = λ kept. check-stays map after store kept (q .as-long) (λ s m h. read-only s m (head-fixed s h));
       }
 
 pub write-changes-only : WriteChangesOnly

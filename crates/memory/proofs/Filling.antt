@@ -14,12 +14,14 @@ use lib.Seq.{getD-set-same, getD-set-other}
 use Rattle.laws.specs.Choice.{if_then_else_}
 use Rattle.laws.proofs.Items.{items-cons}
 use Rattle.laws.proofs.Sides.{and-left, and-right}
-use Rattle.banks.specs.Map.{recordAt, recordsOf, placesEnd}
-use Rattle.banks.specs.Rules.{sizeHolds, ordered, placed}
-use Rattle.banks.specs.Lookup.{putValue}
-use Rattle.banks.specs.declared.record.Record.{Record}
-use Rattle.banks.proofs.Walk.{at-end, member}
-use Rattle.banks.proofs.Members.{placed-ordered, member-fields, member-inside}
+use Rattle.records.specs.Map.{recordAt, recordsOf, placesEnd}
+use Rattle.records.specs.Order.{sizeHolds, ordered}
+use Rattle.records.specs.declared.record.Record.{Record}
+use Rattle.records.proofs.Walk.{at-end, member}
+use Rattle.records.proofs.Members.{member-fields}
+use Rattle.banks.specs.Rules.{placed}
+use Rattle.banks.specs.Values.{putValue}
+use Rattle.banks.proofs.Places.{placed-ordered, member-inside}
 use Rattle.memory.specs.Filled.{chosen, fresh, filledBy, filledOf, filledFrom, PickedTo, Picked}
 use Rattle.memory.specs.declared.filled.Filling.{Filling}
 

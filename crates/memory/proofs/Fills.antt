@@ -14,13 +14,15 @@ use Rattle.laws.proofs.Tests.{if-by, clash}
 use Rattle.laws.proofs.Choosing.{if-yes, if-no, refuted}
 use Rattle.laws.proofs.Sides.{and-left, or-left}
 use Rattle.laws.proofs.Parts.{length-put, length-part}
-use Rattle.banks.specs.Map.{recordsOf, writable, placesEnd}
+use Rattle.records.specs.Map.{recordsOf, writable, placesEnd}
+use Rattle.records.specs.Facts.{Member}
+use Rattle.records.specs.declared.record.Record.{Record}
+use Rattle.records.proofs.Members.{member-fields}
 use Rattle.banks.specs.Rules.{placed, isLock}
-use Rattle.banks.specs.Lookup.{valueOf, putValue}
-use Rattle.banks.specs.Facts.{Member, Apart, Put}
-use Rattle.banks.specs.declared.record.Record.{Record}
-use Rattle.banks.proofs.Members.{placed-ordered, member-fields, member-inside, members-apart}
-use Rattle.banks.proofs.HeadsAndLocks.{single-lock}
+use Rattle.banks.specs.Values.{valueOf, putValue}
+use Rattle.banks.specs.Facts.{Apart, Put}
+use Rattle.banks.proofs.Places.{placed-ordered, member-inside, members-apart}
+use Rattle.banks.proofs.HeadsAndLocks.{head-fixed, single-lock}
 use Rattle.banks.proofs.Values.{value-put, check-stays}
 use Rattle.memory.specs.Filled.{chosen, fresh, filledBy, filledOf}
 use Rattle.memory.specs.Promises.{ChangesOnly, FillingSettled, FillValue, FillChangesOnly, PowerOnKeeps}
@@ -137,7 +139,9 @@ module _ (map store image : List ℕ) (p : placed map (length store) ≡ true) (
         others = only;
         read-only = read-only;
         unmapped = λ j h. unmapped j h (recordsOf map) (λ q i. i);
-        checks = λ kept. check-stays map after store kept (filled-length (recordsOf map)) read-only;
+        checks =
+            λ kept.
+            check-stays map after store kept (filled-length (recordsOf map)) (λ r m h. read-only r m (head-fixed r h));
       }
 
 pub fill-value : FillValue

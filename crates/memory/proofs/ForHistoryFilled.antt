@@ -7,11 +7,11 @@ use Prim.Native.Nat.{ℕ}
 use lib.Dec.{eqb}
 use lib.ListN.{length}
 use Rattle.laws.specs.Choice.{if_then_else_}
-use Rattle.banks.specs.Map.{recordsOf, writable}
+use Rattle.records.specs.Map.{recordsOf, writable}
+use Rattle.records.specs.Facts.{Member}
+use Rattle.records.specs.declared.record.Record.{Record}
 use Rattle.banks.specs.Rules.{placed, isLock}
-use Rattle.banks.specs.Lookup.{valueOf, lockByte}
-use Rattle.banks.specs.Facts.{Member}
-use Rattle.banks.specs.declared.record.Record.{Record}
+use Rattle.banks.specs.Values.{valueOf, lockByte}
 use Rattle.memory.specs.Filled.{selects, chosen, fresh, filledOf}
 use Rattle.memory.specs.declared.filled.Filling.{Filling}
 use Rattle.memory.specs.declared.filled.Filling.the-variants.{PowerOn, Reset}

@@ -14,19 +14,21 @@ use Rattle.laws.specs.Choice.{if_then_else_}
 use Rattle.laws.specs.Outcome.{Outcome, leaves}
 use Rattle.laws.proofs.Tests.{both, and-of, clash}
 use Rattle.laws.proofs.Sides.{or-left, or-right}
-use Rattle.banks.specs.Map.{recordsOf, writable, locationsEnd}
+use Rattle.records.specs.Map.{recordsOf, writable, locationsEnd}
+use Rattle.records.specs.Lookup.{holder, beginner}
+use Rattle.records.specs.Facts.{Member, Fielded, Holds}
+use Rattle.records.specs.declared.record.Record.{Record}
+use Rattle.records.specs.declared.holder.Beginning.the-variants.{Begins}
+use Rattle.records.specs.declared.holder.Found.{Found}
+use Rattle.records.specs.declared.holder.Found.the-variants.{At, Nothing}
+use Rattle.records.proofs.Locations.{holder-hit, first-found}
+use Rattle.records.proofs.Members.{member-fields}
 use Rattle.banks.specs.Rules.{placed}
-use Rattle.banks.specs.Lookup.{holder, beginner, valueOf, putValue, lockByte}
-use Rattle.banks.specs.Facts.{Member, Fielded, Holds}
-use Rattle.banks.specs.declared.record.Record.{Record}
-use Rattle.banks.specs.declared.holder.Found.{Found}
-use Rattle.banks.specs.declared.holder.Found.the-variants.{At, Nothing}
-use Rattle.banks.proofs.Locations.{holder-hit, holder-within, first-found}
-use Rattle.banks.proofs.Members.{placed-ordered, member-fields}
+use Rattle.banks.specs.Values.{valueOf, putValue, lockByte, padded}
+use Rattle.banks.proofs.Places.{holder-within, placed-ordered}
 use Rattle.banks.proofs.Values.{value-put}
 use Rattle.memory.specs.Rooms.{stagedHolds}
 use Rattle.memory.specs.Staged.{noneStaged, isNext, unlocked, taken, stagedOf, wrote, writeOf}
-use Rattle.memory.specs.Latched.{padded}
 use Rattle.memory.specs.Promises.{Takes, bytesTo}
 use Rattle.memory.specs.declared.staged.Staged.{Staged}
 use Rattle.memory.specs.declared.staged.Wrote.{Wrote}
@@ -152,8 +154,8 @@ module _ (map store : List ℕ) (p : placed map (length store) ≡ true) (g : St
       let b : g .bank ≡ v .bank = eqb-true _ _ (c .1) in
       let f : g .first ≡ v .first = eqb-true _ _ (q .1) in
       let s = staged-said (recordsOf map) store g holding (λ z. omega arith) in
-      let x : beginner (recordsOf map) (g .bank) (g .first) ≡ At (s .0) = s .1 .begins in
-      let y : beginner (recordsOf map) (v .bank) (v .first) ≡ At v =
+      let x : beginner (recordsOf map) (g .bank) (g .first) ≡ Begins (s .0) = s .1 .begins in
+      let y : beginner (recordsOf map) (v .bank) (v .first) ≡ Begins v =
       first-found map (placed-ordered map (length store) p) v m .1 in
       let same : s .0 ≡ v = cc in
       record { some = n; bank-is = b; first-is = f; short = rw same at (s .1 .not-all); is = rw e }

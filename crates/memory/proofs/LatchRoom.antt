@@ -11,16 +11,17 @@ use lib.ListN.{length}
 use Rattle.laws.proofs.Tests.{if-by}
 use Rattle.laws.proofs.Choosing.{if-yes, if-no}
 use Rattle.laws.proofs.Parts.{length-part}
-use Rattle.banks.specs.Map.{recordsOf}
+use Rattle.records.specs.Map.{recordsOf}
+use Rattle.records.specs.Lookup.{holder}
+use Rattle.records.specs.declared.record.Record.{Record}
+use Rattle.records.specs.declared.holder.Found.{Found}
+use Rattle.records.specs.declared.holder.Found.the-variants.{At, Nothing}
+use Rattle.records.proofs.Locations.{first-found}
 use Rattle.banks.specs.Rules.{placed}
-use Rattle.banks.specs.Lookup.{holder, valueOf}
+use Rattle.banks.specs.Values.{valueOf, padded}
 use Rattle.banks.specs.Facts.{Within}
-use Rattle.banks.specs.declared.record.Record.{Record}
-use Rattle.banks.specs.declared.holder.Found.{Found}
-use Rattle.banks.specs.declared.holder.Found.the-variants.{At, Nothing}
-use Rattle.banks.proofs.Members.{placed-ordered}
-use Rattle.banks.proofs.Locations.{first-found, holder-within}
-use Rattle.memory.specs.Latched.{padded, latchFrom, latches, showByte, readAt, readOf}
+use Rattle.banks.proofs.Places.{placed-ordered, holder-within}
+use Rattle.memory.specs.Latched.{latchFrom, latches, showByte, readAt, readOf}
 use Rattle.memory.specs.Rooms.{zeroFrom, latchedIn, latchHolds}
 use Rattle.memory.specs.Promises.{NoneLatchedHolds, ReadKeepsRule, ReadLatched}
 use Rattle.memory.specs.declared.latched.Latch.{Latch}

@@ -12,13 +12,14 @@ use lib.ListN.{getD}
 use Rattle.laws.specs.Choice.{if_then_else_}
 use Rattle.laws.proofs.Sides.{chosen}
 use Rattle.laws.proofs.PartBytes.{first-byte}
-use Rattle.banks.specs.Map.{recordsOf}
+use Rattle.records.specs.Map.{recordsOf}
+use Rattle.records.specs.Lookup.{holder}
+use Rattle.records.specs.declared.record.Record.{Record}
+use Rattle.records.specs.declared.holder.Found.the-variants.{At}
+use Rattle.records.proofs.Locations.{holds-is, holder-at, beginner-at, mapped-member}
 use Rattle.banks.specs.Rules.{isLock}
-use Rattle.banks.specs.Lookup.{holder, valueOf, byteAt, lockByte}
+use Rattle.banks.specs.Values.{valueOf, byteAt, lockByte}
 use Rattle.banks.specs.Facts.{LockRecord}
-use Rattle.banks.specs.declared.record.Record.{Record}
-use Rattle.banks.specs.declared.holder.Found.the-variants.{At}
-use Rattle.banks.proofs.Locations.{holds-is, holder-at, beginner-at, mapped-member}
 use Rattle.banks.proofs.HeadsAndLocks.{has-lock, writable-bank}
 use Rattle.memory.specs.Staged.{unlocked}
 use Rattle.memory.specs.Filled.{fresh, filledOf}

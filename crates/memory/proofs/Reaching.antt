@@ -4,12 +4,12 @@ use Prim.Native.Nat.{ℕ}
 use mathlib.Core.Path.{_≡_}
 use mathlib.Core.Bool.{true}
 use mathlib.Core.List.{List}
-use Rattle.banks.specs.Map.{recordsOf}
+use Rattle.records.specs.Map.{recordsOf}
+use Rattle.records.specs.Lookup.{holder}
+use Rattle.records.specs.declared.record.Record.{Record}
+use Rattle.records.specs.declared.holder.Found.the-variants.{At}
 use Rattle.banks.specs.Rules.{placed}
-use Rattle.banks.specs.Lookup.{holder}
-use Rattle.banks.specs.declared.record.Record.{Record}
-use Rattle.banks.specs.declared.holder.Found.the-variants.{At}
-use Rattle.banks.proofs.Locations.{holder-within}
+use Rattle.banks.proofs.Places.{holder-within}
 use Rattle.memory.specs.Reach.{Reaches}
 
 pub reaches : (map : List ℕ) (n bank location : ℕ) → placed map n ≡ true

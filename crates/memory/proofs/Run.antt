@@ -12,12 +12,14 @@ use lib.Dec.{eqb}
 use lib.ListN.{length, take, set, replicate, length-set}
 use lib.Seq.{take-suc-set}
 use Rattle.laws.specs.Outcome.{Outcome, leaves}
-use Rattle.banks.specs.Map.{recordsOf, writable}
-use Rattle.banks.specs.Lookup.{holder, putValue}
-use Rattle.banks.specs.declared.record.Record.{Record}
-use Rattle.banks.specs.declared.holder.Found.the-variants.{At}
-use Rattle.banks.proofs.Members.{placed-ordered, member-fields}
-use Rattle.banks.proofs.Locations.{holder-hit}
+use Rattle.records.specs.Map.{recordsOf, writable}
+use Rattle.records.specs.Lookup.{holder}
+use Rattle.records.specs.declared.record.Record.{Record}
+use Rattle.records.specs.declared.holder.Found.the-variants.{At}
+use Rattle.records.proofs.Members.{member-fields}
+use Rattle.records.proofs.Locations.{holder-hit}
+use Rattle.banks.specs.Values.{putValue}
+use Rattle.banks.proofs.Places.{placed-ordered}
 use Rattle.memory.specs.Staged.{noneStaged, unlocked, taken, bytesWith, stagedOf}
 use Rattle.memory.specs.Promises.{writes, WholeValue}
 use Rattle.memory.specs.declared.staged.Staged.{Staged}

@@ -14,18 +14,18 @@ use Rattle.laws.specs.Choice.{if_then_else_}
 use Rattle.laws.specs.Outcome.{Outcome, leaves}
 use Rattle.laws.proofs.Tests.{if-eq}
 use Rattle.laws.proofs.Sides.{and-left, and-right, chosen}
-use Rattle.banks.specs.Map.{recordsOf, writable, locationsEnd}
+use Rattle.records.specs.Map.{recordsOf, writable, locationsEnd}
+use Rattle.records.specs.Lookup.{beginner}
+use Rattle.records.specs.declared.record.Record.{Record}
+use Rattle.records.specs.declared.holder.Beginning.{Beginning}
+use Rattle.records.specs.declared.holder.Beginning.the-variants.{Begins, NoValue}
+use Rattle.records.proofs.Locations.{first-found}
 use Rattle.banks.specs.Rules.{placed}
-use Rattle.banks.specs.Lookup.{beginner, valueOf, putValue}
+use Rattle.banks.specs.Values.{valueOf, putValue, padded}
 use Rattle.banks.specs.Facts.{Within}
-use Rattle.banks.specs.declared.record.Record.{Record}
-use Rattle.banks.specs.declared.holder.Found.{Found}
-use Rattle.banks.specs.declared.holder.Found.the-variants.{At, Nothing}
-use Rattle.banks.proofs.Members.{placed-ordered}
-use Rattle.banks.proofs.Locations.{first-found, holder-within}
+use Rattle.banks.proofs.Places.{placed-ordered, holder-within}
 use Rattle.banks.proofs.Values.{value-put}
 use Rattle.memory.specs.Staged.{noneStaged, unlocked, bytesWith, stagedOf, wrote, writeOf}
-use Rattle.memory.specs.Latched.{padded}
 use Rattle.memory.specs.Rooms.{zeroFrom, stagedIn, stagedHolds}
 use Rattle.memory.specs.Promises.{Takes, bytesTo, NoneStagedHolds, WriteKeepsRule, WriteTakes, WriteValue}
 use Rattle.memory.specs.declared.staged.Staged.{Staged}
@@ -39,7 +39,7 @@ none-staged-holds rs store = refl
 
 -- what the rule says where something is staged
 pub record StagedOf (rs : List Record) (store : List ℕ) (g : Staged) (r : Record) : Type 0 where
-  pub begins : beginner rs (g .bank) (g .first) ≡ At r
+  pub begins : beginner rs (g .bank) (g .first) ≡ Begins r
   pub writes : writable r ≡ true
   pub opens : unlocked rs store r ≡ true
   pub not-all : g .count < r .width
@@ -50,9 +50,9 @@ module _ (rs : List Record) (store : List ℕ) (g : Staged) (e : stagedHolds rs 
   unfolding stagedHolds stagedIn
   staged-said n = go (beginner rs (g .bank) (g .first)) refl (rw (ne-eqb (g .count) 0 n) at e)
     where
-      go : (f : Found) → beginner rs (g .bank) (g .first) ≡ f → stagedIn rs store g f ≡ true
+      go : (f : Beginning) → beginner rs (g .bank) (g .first) ≡ f → stagedIn rs store g f ≡ true
           → (r : Record) × StagedOf rs store g r
-      go (At r) b t = (
+      go (Begins r) b t = (
         r,
         record {
           begins = b;
@@ -62,7 +62,7 @@ module _ (rs : List Record) (store : List ℕ) (g : Staged) (e : stagedHolds rs 
           zero = search (and-left, and-right) depth 6;
         },
       )
-      go Nothing b t = let z : _≡_ {A = ℕ} 0 1 = cc in absurd (omega arith)
+      go NoValue b t = let z : _≡_ {A = ℕ} 0 1 = cc in absurd (omega arith)
 
   pub staged-room : length (g .bytes) ≡ 8
   unfolding stagedHolds

@@ -13,15 +13,16 @@ use lib.ListN.{take}
 use Rattle.laws.specs.Outcome.{Outcome, leaves}
 use Rattle.laws.proofs.Tests.{if-by, if-eq}
 use Rattle.laws.proofs.Sides.{either, and-left, and-right}
-use Rattle.banks.specs.Map.{writable}
-use Rattle.banks.specs.Lookup.{holder, putValue}
-use Rattle.banks.specs.Facts.{Holds}
-use Rattle.banks.proofs.Locations.{holds-is, holder-at}
-use Rattle.banks.specs.declared.record.Record.{Record}
-use Rattle.banks.specs.declared.holder.Found.{Found}
-use Rattle.banks.specs.declared.holder.Found.the-variants.{At, Nothing}
-use Rattle.memory.specs.Staged.{noneStaged, isNext, unlocked, taken, bytesWith, stagedOf, wrote}
-use Rattle.memory.specs.Staged.{takeByte, dropped, writeFound, writeAt, writeOf}
+use Rattle.records.specs.Map.{writable}
+use Rattle.records.specs.Lookup.{holder}
+use Rattle.records.specs.Facts.{Holds}
+use Rattle.records.proofs.Locations.{holds-is, holder-at}
+use Rattle.records.specs.declared.record.Record.{Record}
+use Rattle.records.specs.declared.holder.Found.{Found}
+use Rattle.records.specs.declared.holder.Found.the-variants.{At, Nothing}
+use Rattle.banks.specs.Values.{putValue}
+use Rattle.memory.specs.Staged.{noneStaged, isNext, unlocked, taken, bytesWith, stagedOf, wrote, takeByte}
+use Rattle.memory.specs.Staged.{dropped, writeFound, writeAt, writeOf}
 use Rattle.memory.specs.Promises.{Takes, WriteDrops, WriteNotLast}
 use Rattle.memory.specs.declared.staged.Staged.{Staged}
 use Rattle.memory.specs.declared.staged.Wrote.{Wrote}

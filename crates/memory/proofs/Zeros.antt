@@ -13,7 +13,7 @@ use lib.ListN.{length-append, length-drop, length-replicate, drop-of-length-le}
 use lib.Seq.{length-take-le, drop-cons, drop-append-seam, set-split}
 use Rattle.laws.specs.Lists.{every}
 use Rattle.laws.proofs.Tests.{both}
-use Rattle.memory.specs.Latched.{padded}
+use Rattle.banks.specs.Values.{padded}
 use Rattle.memory.specs.Rooms.{zeroFrom}
 
 abbrev zeros : List ℕ → Bool

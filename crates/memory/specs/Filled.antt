@@ -9,10 +9,10 @@ use lib.Dec.{leb, eqb}
 use lib.ListN.{length, getD}
 use Rattle.laws.specs.Choice.{if_then_else_}
 use Rattle.laws.specs.Lists.{items}
-use Rattle.banks.specs.Map.{recordAt, recordsOf, writable}
+use Rattle.records.specs.Map.{recordAt, recordsOf, writable}
+use Rattle.records.specs.declared.record.Record.{Record}
 use Rattle.banks.specs.Rules.{isLock}
-use Rattle.banks.specs.Lookup.{valueOf, putValue, lockByte}
-use Rattle.banks.specs.declared.record.Record.{Record}
+use Rattle.banks.specs.Values.{valueOf, putValue, lockByte}
 use Rattle.memory.specs.declared.filled.Filling.{Filling}
 use Rattle.memory.specs.declared.filled.Filling.the-variants.{PowerOn, Reset}
 
@@ -49,7 +49,7 @@ filledBy such image store (r ∷ rs) =
 unfoldable pub filledOf : List Record → List ℕ → List ℕ → Filling → List ℕ
 filledOf rs store image filling = filledBy (chosen rs store filling) image store rs
 
--- the records from number i on, as the recursion over the map comes to them
+-- the records from number i on, as the loop over the map, from the last one down, comes to them
 abbrev pub filledFrom : List ℕ → List ℕ → List ℕ → Filling → ℕ → List ℕ
 filledFrom map store image filling i =
     filledBy (chosen (recordsOf map) store filling) image store (items (recordAt map) i (length map / 8 - i))

@@ -2,24 +2,21 @@
 -- Assumes nothing.
 use Prim.Native.Nat.{ℕ, _-_}
 use mathlib.Core.Bool.{Bool, true, false, _&&_}
-use mathlib.Core.List.{List, _++_}
+use mathlib.Core.List.{List}
 use lib.Dec.{leb, eqb}
-use lib.ListN.{length, getD, replicate}
+use lib.ListN.{getD, replicate}
 use Rattle.laws.specs.Choice.{if_then_else_}
-use Rattle.banks.specs.Lookup.{holder, valueOf}
-use Rattle.banks.specs.declared.record.Record.{Record}
-use Rattle.banks.specs.declared.holder.Found.{Found}
-use Rattle.banks.specs.declared.holder.Found.the-variants.{At, Nothing}
+use Rattle.records.specs.Lookup.{holder}
+use Rattle.records.specs.declared.record.Record.{Record}
+use Rattle.records.specs.declared.holder.Found.{Found}
+use Rattle.records.specs.declared.holder.Found.the-variants.{At, Nothing}
+use Rattle.banks.specs.Values.{valueOf, padded}
 use Rattle.memory.specs.declared.latched.Latch.{Latch}
 use Rattle.memory.specs.declared.latched.Shown.{Shown}
 
 -- nothing is latched, and whatever is not in use is zero
 abbrev pub noneLatched : Latch
 noneLatched = record { held = false; bank = 0; first = 0; bytes = replicate 8 0 }
-
--- eight bytes: the value's, and zeros behind them
-abbrev pub padded : List ℕ → List ℕ
-padded value = value ++ replicate (8 - length value) 0
 
 abbrev pub latchedOf : Record → List ℕ → Latch
 latchedOf r value = record { held = true; bank = r .bank; first = r .first; bytes = padded value }

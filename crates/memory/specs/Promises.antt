@@ -10,14 +10,16 @@ use lib.Dec.{eqb}
 use lib.ListN.{length, take, getD}
 use Rattle.laws.specs.Choice.{if_then_else_}
 use Rattle.laws.specs.Outcome.{Outcome, leaves}
-use Rattle.banks.specs.Map.{recordsOf, writable, mapped, locationsEnd, placesEnd}
+use Rattle.records.specs.Map.{recordsOf, writable, mapped, locationsEnd, placesEnd}
+use Rattle.records.specs.Lookup.{holder}
+use Rattle.records.specs.Facts.{Member}
+use Rattle.records.specs.declared.record.Record.{Record}
+use Rattle.records.specs.declared.holder.Found.the-variants.{At}
 use Rattle.banks.specs.Rules.{placed, checkNumber}
-use Rattle.banks.specs.Lookup.{holder, valueOf, putValue, lockByte}
-use Rattle.banks.specs.Facts.{Member, Stands}
-use Rattle.banks.specs.declared.record.Record.{Record}
-use Rattle.banks.specs.declared.holder.Found.the-variants.{At}
+use Rattle.banks.specs.Values.{valueOf, putValue, lockByte, padded}
+use Rattle.banks.specs.Facts.{Stands}
 use Rattle.memory.specs.Staged.{noneStaged, unlocked, taken, stagedOf, wrote, writeOf}
-use Rattle.memory.specs.Latched.{noneLatched, padded, latches, shown, readOf}
+use Rattle.memory.specs.Latched.{noneLatched, latches, shown, readOf}
 use Rattle.memory.specs.Filled.{fillingNumber, fillingValues, selects, chosen, fresh, filledOf}
 use Rattle.memory.specs.Rooms.{stagedHolds, latchHolds}
 use Rattle.memory.specs.declared.staged.Staged.{Staged}

@@ -1,8 +1,8 @@
 -- What the functions that work on a value's part rest on: the location lies in the value, and its place in the store.
 -- Assumes nothing.
 use Prim.Native.Nat.{ℕ, _≤_, _<_}
-use Rattle.banks.specs.Map.{locationsEnd, placesEnd}
-use Rattle.banks.specs.declared.record.Record.{Record}
+use Rattle.records.specs.Map.{locationsEnd, placesEnd}
+use Rattle.records.specs.declared.record.Record.{Record}
 
 -- of a store of n bytes
 pub record Reaches (n location : ℕ) (r : Record) : Type 0 where

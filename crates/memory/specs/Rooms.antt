@@ -8,11 +8,11 @@ use lib.Dec.{leb, ltb, eqb}
 use lib.ListN.{length, drop}
 use Rattle.laws.specs.Choice.{if_then_else_}
 use Rattle.laws.specs.Lists.{every}
-use Rattle.banks.specs.Map.{writable}
-use Rattle.banks.specs.Lookup.{beginner}
-use Rattle.banks.specs.declared.record.Record.{Record}
-use Rattle.banks.specs.declared.holder.Found.{Found}
-use Rattle.banks.specs.declared.holder.Found.the-variants.{At, Nothing}
+use Rattle.records.specs.Map.{writable}
+use Rattle.records.specs.Lookup.{beginner}
+use Rattle.records.specs.declared.record.Record.{Record}
+use Rattle.records.specs.declared.holder.Beginning.{Beginning}
+use Rattle.records.specs.declared.holder.Beginning.the-variants.{Begins, NoValue}
 use Rattle.memory.specs.Staged.{unlocked}
 use Rattle.memory.specs.declared.staged.Staged.{Staged}
 use Rattle.memory.specs.declared.latched.Latch.{Latch}
@@ -22,10 +22,10 @@ unfoldable pub zeroFrom : ℕ → List ℕ → Bool
 zeroFrom used bytes = eqb (length bytes) 8 && every (λ b. eqb b 0) (drop used bytes)
 
 -- at least one, not all, of a writable value of width 2 or more, its lock byte 0x55 if it is lockable
-unfoldable pub stagedIn : List Record → List ℕ → Staged → Found → Bool
-stagedIn rs store g (At r) =
+unfoldable pub stagedIn : List Record → List ℕ → Staged → Beginning → Bool
+stagedIn rs store g (Begins r) =
     ltb (g .count) (r .width) && writable r && leb 2 (r .width) && unlocked rs store r && zeroFrom (g .count) (g .bytes)
-stagedIn rs store g Nothing = false
+stagedIn rs store g NoValue = false
 
 -- staged bytes are those of the value that begins at their bank and first location
 unfoldable pub stagedHolds : List Record → List ℕ → Staged → Bool
@@ -34,9 +34,9 @@ stagedHolds rs store g =
     else stagedIn rs store g (beginner rs (g .bank) (g .first))
 
 -- latched bytes, whatever they are, belong to a mapped value of width 2 or more
-unfoldable pub latchedIn : Latch → Found → Bool
-latchedIn l (At r) = leb 2 (r .width) && zeroFrom (r .width) (l .bytes)
-latchedIn l Nothing = false
+unfoldable pub latchedIn : Latch → Beginning → Bool
+latchedIn l (Begins r) = leb 2 (r .width) && zeroFrom (r .width) (l .bytes)
+latchedIn l NoValue = false
 
 unfoldable pub latchHolds : List Record → Latch → Bool
 latchHolds rs l =

@@ -8,11 +8,12 @@ use lib.Dec.{leb, eqb}
 use lib.ListN.{take, set, replicate}
 use Rattle.laws.specs.Choice.{if_then_else_}
 use Rattle.laws.specs.Outcome.{Outcome, leaves}
-use Rattle.banks.specs.Map.{writable}
-use Rattle.banks.specs.Lookup.{holder, putValue, lockByte}
-use Rattle.banks.specs.declared.record.Record.{Record}
-use Rattle.banks.specs.declared.holder.Found.{Found}
-use Rattle.banks.specs.declared.holder.Found.the-variants.{At, Nothing}
+use Rattle.records.specs.Map.{writable}
+use Rattle.records.specs.Lookup.{holder}
+use Rattle.records.specs.declared.record.Record.{Record}
+use Rattle.records.specs.declared.holder.Found.{Found}
+use Rattle.records.specs.declared.holder.Found.the-variants.{At, Nothing}
+use Rattle.banks.specs.Values.{putValue, lockByte}
 use Rattle.memory.specs.declared.staged.Staged.{Staged}
 use Rattle.memory.specs.declared.staged.Wrote.{Wrote}
 

@@ -3,18 +3,18 @@ ghost use mathlib.Core.Path.{_≡_};
 ghost use mathlib.Core.Bool.{true};
 ghost use Prim.Native.Nat.{_≤_};
 ghost use lib.ListN.{length};
-ghost use Rattle.banks.specs.Map.{recordsOf, placesEnd};
+ghost use Rattle.records.specs.Map.{recordsOf, placesEnd};
 ghost use Rattle.banks.specs.Rules.{placed};
-ghost use Rattle.banks.specs.Lookup.{putValue};
+ghost use Rattle.banks.specs.Values.{putValue};
 ghost use Rattle.memory.specs.Filled.{selects, chosen, fresh, Picked, filledOf};
-use crate::parts::put_value;
-use banks::Record;
 use banks::is_lock;
-use banks::is_writable;
 use banks::lock_byte;
-use banks::places_end;
-use banks::record_at;
-use banks::records;
+use banks::put_value;
+use records::Record;
+use records::is_writable;
+use records::places_end;
+use records::record_at;
+use records::records;
 
 pub enum Filling {
     PowerOn,

@@ -3,16 +3,16 @@ ghost use mathlib.Core.Path.{_≡_};
 ghost use mathlib.Core.Bool.{true};
 ghost use Prim.Native.Nat.{_-_, _<_, _≤_};
 ghost use lib.ListN.{length};
-ghost use Rattle.banks.specs.Map.{recordsOf};
+ghost use Rattle.records.specs.Map.{recordsOf};
 ghost use Rattle.banks.specs.Rules.{placed};
-ghost use Rattle.banks.specs.Lookup.{valueOf};
+ghost use Rattle.banks.specs.Values.{valueOf};
 ghost use Rattle.memory.specs.Reach.{Reaches};
 ghost use Rattle.memory.specs.Latched.{noneLatched, latches, latchFrom, shown, showByte, readOf};
-use crate::parts::padded_part;
-use banks::Found;
-use banks::Record;
-use banks::lookup;
-use banks::places_end;
+use banks::padded_part;
+use records::Found;
+use records::Record;
+use records::lookup;
+use records::places_end;
 
 pub struct Latch {
     pub held: bool,

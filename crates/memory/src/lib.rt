@@ -1,5 +1,4 @@
 // One value at a time: an executed write with staging, READ with the latch, reset and power-on of the store.
-mod parts; // a value's part of the store
 mod staged; // an executed write
 mod latched; // READ and the latch
 mod filled; // reset and power-on

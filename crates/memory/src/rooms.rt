@@ -2,16 +2,16 @@
 ghost use mathlib.Core.Path.{_≡_};
 ghost use mathlib.Core.Bool.{true};
 ghost use lib.ListN.{length};
-ghost use Rattle.banks.specs.Map.{recordsOf};
-ghost use Rattle.banks.specs.Rules.{placed, ordered};
-ghost use Rattle.banks.specs.Lookup.{beginner};
+ghost use Rattle.records.specs.Map.{recordsOf};
+ghost use Rattle.records.specs.Order.{ordered};
+ghost use Rattle.banks.specs.Rules.{placed};
 ghost use Rattle.memory.specs.Rooms.{zeroFrom, stagedIn, stagedHolds, latchedIn, latchHolds};
 use crate::latched::Latch;
 use crate::staged::Staged;
 use crate::staged::is_unlocked;
-use banks::Found;
-use banks::is_writable;
-use banks::lookup;
+use records::Beginning;
+use records::is_writable;
+use records::value_at;
 
 // The bytes are zero from number `used` on.
 fn is_zero_from(bytes: [u8; 8], used: usize) -> bool
@@ -27,35 +27,20 @@ fn is_zero_from(bytes: [u8; 8], used: usize) -> bool
     true
 }
 
-// Internal: the value that begins at the bank and location. The map has passed 7, 8 and 9.
-fn value_from(map: &[u8], bank: u8, location: u8) -> Found
-    requires { ⌜ ordered (now map) ≡ true ⌝ }
-    ensures { λ f. ⌜ f ≡ beginner (recordsOf (now (map .entry))) bank location ⌝ }
-{
-    match lookup(map, bank, location) {
-        Found::At(r) => if r.first == location {
-            Found::At(r)
-        } else {
-            Found::Nothing
-        },
-        Found::Nothing => Found::Nothing,
-    }
-}
-
 // Internal: the staged bytes are some of this value's.
-fn staged_in(map: &[u8], store: &[u8], g: Staged, found: Found) -> bool
+fn staged_in(map: &[u8], store: &[u8], g: Staged, value: Beginning) -> bool
     requires { ⌜ placed (now map) (length (now store)) ≡ true ⌝ }
-    ensures { λ b. ⌜ b ≡ stagedIn (recordsOf (now (map .entry))) (now (store .entry)) g found ⌝ }
+    ensures { λ b. ⌜ b ≡ stagedIn (recordsOf (now (map .entry))) (now (store .entry)) g value ⌝ }
 {
-    match found {
-        Found::At(r) => {
+    match value {
+        Beginning::Begins(r) => {
             let writes = is_writable(r);
             let opens = is_unlocked(map, store, r);
             let bytes = g.bytes;
             let zero = is_zero_from(bytes, g.count as usize);
             (g.count < r.width) & writes & (2 <= r.width) & opens & zero
         }
-        Found::Nothing => false,
+        Beginning::NoValue => false,
     }
 }
 
@@ -69,21 +54,21 @@ pub fn staged_holds(map: &[u8], store: &[u8], staged: Staged) -> bool
         let zero = is_zero_from(bytes, 0);
         return (staged.bank == 0) & (staged.first == 0) & zero;
     }
-    let found = value_from(map, staged.bank, staged.first);
-    staged_in(map, store, staged, found)
+    let value = value_at(map, staged.bank, staged.first);
+    staged_in(map, store, staged, value)
 }
 
 // The latched bytes are this value's.
-fn latched_in(l: Latch, found: Found) -> bool
-    ensures { λ b. ⌜ b ≡ latchedIn l found ⌝ }
+fn latched_in(l: Latch, value: Beginning) -> bool
+    ensures { λ b. ⌜ b ≡ latchedIn l value ⌝ }
 {
-    match found {
-        Found::At(r) => {
+    match value {
+        Beginning::Begins(r) => {
             let bytes = l.bytes;
             let zero = is_zero_from(bytes, r.width as usize);
             (2 <= r.width) & zero
         }
-        Found::Nothing => false,
+        Beginning::NoValue => false,
     }
 }
 
@@ -93,8 +78,8 @@ pub fn latch_holds(map: &[u8], latch: Latch) -> bool
     ensures { λ b. ⌜ b ≡ latchHolds (recordsOf (now (map .entry))) latch ⌝ }
 {
     if latch.held {
-        let found = value_from(map, latch.bank, latch.first);
-        return latched_in(latch, found);
+        let value = value_at(map, latch.bank, latch.first);
+        return latched_in(latch, value);
     }
     let bytes = latch.bytes;
     let zero = is_zero_from(bytes, 0);

@@ -4,17 +4,17 @@ ghost use mathlib.Core.Bool.{true, false};
 ghost use Prim.Native.Nat.{_+_, _<_, _≤_};
 ghost use lib.ListN.{length};
 ghost use Rattle.laws.specs.Outcome.{Gives};
-ghost use Rattle.banks.specs.Map.{recordsOf};
+ghost use Rattle.records.specs.Map.{recordsOf};
 ghost use Rattle.banks.specs.Rules.{placed};
 ghost use Rattle.memory.specs.Reach.{Reaches};
 ghost use Rattle.memory.specs.Staged.{noneStaged, isNext, unlocked, taken, bytesWith, wrote, takeByte};
 ghost use Rattle.memory.specs.Staged.{writeFound, writeOf};
-use crate::parts::put_value;
-use banks::Found;
-use banks::Record;
-use banks::is_writable;
 use banks::lock_byte;
-use banks::lookup;
+use banks::put_value;
+use records::Found;
+use records::Record;
+use records::is_writable;
+use records::lookup;
 
 pub struct Staged {
     pub count: u8,

@@ -12,7 +12,7 @@ use Rattle.laws.specs.Choice.{if_then_else_}
 use Rattle.laws.specs.Lists.{some}
 use Rattle.laws.specs.Numbers.{test, firstFailing}
 use Rattle.laws.specs.Outcome.{Outcome, leaves}
-use Rattle.banks.specs.Map.{recordsOf}
+use Rattle.records.specs.Map.{recordsOf}
 use Rattle.banks.specs.Rules.{checkTests, checkNumber}
 use Rattle.rooms.specs.Rules.{addressHolds, stateHolds}
 use Rattle.rooms.specs.Reply.{refusing}
@@ -25,7 +25,7 @@ use Rattle.tracing.specs.Entry.{isBroken}
 use Rattle.tracing.specs.Trace.{inputsOf, broken, Traced, tracedOf}
 use Rattle.tracing.specs.Run.{Runs}
 use Rattle.tracing.specs.declared.entry.Entry.{Entry}
-use Rattle.tracing.specs.declared.records.Ran.{Ran}
+use Rattle.tracing.specs.declared.runs.Ran.{Ran}
 use Rattle.packing.specs.StateBytes.{stateBytes, stateOf, shapeHolds}
 use Rattle.mirtofalko.specs.Face.{shapeNumber, refusedRun, runFace, RunFaces}
 use Rattle.mirtofalko.proofs.Faced.{shape-first, shape-then}

@@ -9,7 +9,7 @@ use lib.ListN.{length, replicate}
 use Rattle.laws.specs.Bits.{bits}
 use Rattle.laws.specs.Numbers.{Test, test}
 use Rattle.laws.specs.Settled.{Settles}
-use Rattle.banks.specs.Map.{recordsOf}
+use Rattle.records.specs.Map.{recordsOf}
 use Rattle.banks.specs.Rules.{checkTests}
 use Rattle.looks.specs.declared.looked.Looked.{Looked}
 use Rattle.rooms.specs.Rules.{stateHolds}

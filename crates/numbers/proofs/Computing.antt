@@ -7,10 +7,11 @@ use Rattle.frames.specs.Kind.{kindOf}
 use Rattle.frames.specs.Values.{targetAt}
 use Rattle.frames.specs.Read.{readOf, commandOf, addressOf, targetOf, eventOf, schemeOf, otherOf, fieldOf}
 use Rattle.frames.specs.Read.{powerOf as powerEventOf}
-use Rattle.banks.specs.Map.{recordAt, recordsOf}
-use Rattle.banks.specs.Rules.{sizeHolds, lengthsHold, placesHold, bankHolds, banksHold, headByteHolds}
-use Rattle.banks.specs.Rules.{headHolds, headBytesHold}
-use Rattle.banks.specs.Lookup.{holder, ifFirst, beginner, valueOf, putValue, byteAt, lockByte}
+use Rattle.records.specs.Map.{recordAt, recordsOf}
+use Rattle.records.specs.Order.{sizeHolds}
+use Rattle.records.specs.Lookup.{holder, ifFirst, beginner}
+use Rattle.banks.specs.Rules.{lengthsHold, placesHold, bankHolds, banksHold, headByteHolds, headHolds, headBytesHold}
+use Rattle.banks.specs.Values.{valueOf, putValue, byteAt, lockByte}
 use Rattle.memory.specs.Staged.{unlocked, taken, bytesWith, takeByte, writeFound, writeAt, writeOf}
 use Rattle.memory.specs.Latched.{latchFrom, showByte, readAt, readOf as shownOf}
 use Rattle.memory.specs.Rooms.{stagedIn, stagedHolds, latchedIn, latchHolds, zeroFrom}

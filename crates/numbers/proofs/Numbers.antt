@@ -10,7 +10,7 @@ use Rattle.laws.specs.Numbers.{Test, test, firstFailing, numbered}
 use Rattle.laws.proofs.Numbers.{exactly-if, none-exactly-if}
 use Rattle.laws.proofs.Joined.{joined-none, joined-some}
 use Rattle.laws.proofs.Settled.{settles}
-use Rattle.banks.specs.Map.{recordsOf}
+use Rattle.records.specs.Map.{recordsOf}
 use Rattle.banks.specs.Rules.{checkTests, checkNumber}
 use Rattle.hearing.specs.declared.rooms.Who.{Who}
 use Rattle.rooms.specs.Rules.{addressHolds, stateHolds}

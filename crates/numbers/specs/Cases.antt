@@ -6,7 +6,8 @@ use mathlib.Core.Path.{_≡_}
 use mathlib.Core.Bool.{Bool, true, false}
 use mathlib.Core.List.{List, [], _∷_, map}
 use lib.ListN.{length}
-use Rattle.banks.specs.Cases.{benchMap, benchStore}
+use Rattle.records.specs.Cases.{benchMap}
+use Rattle.banks.specs.Cases.{benchStore}
 use Rattle.rooms.specs.State.{withWho, withWaiting, withDoor, withLatch, poweredOn}
 use Rattle.rooms.specs.declared.state.State.{State}
 use Rattle.numbers.specs.Numbers.{startNumber, powerNumber, stepNumber}

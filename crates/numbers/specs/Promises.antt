@@ -11,7 +11,7 @@ use Rattle.laws.specs.Choice.{if_then_else_}
 use Rattle.laws.specs.Lists.{every}
 use Rattle.laws.specs.Numbers.{Test, Given}
 use Rattle.laws.specs.Settled.{Settles}
-use Rattle.banks.specs.Map.{recordsOf}
+use Rattle.records.specs.Map.{recordsOf}
 use Rattle.banks.specs.Rules.{checkNumber}
 use Rattle.hearing.specs.declared.rooms.Who.{Who}
 use Rattle.rooms.specs.Rules.{addressHolds, stateHolds}

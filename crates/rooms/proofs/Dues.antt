@@ -6,8 +6,8 @@ use mathlib.Core.Bool.{Bool, true, false, _&&_, _||_}
 use mathlib.Core.List.{List}
 use lib.Dec.{eqb, ltb, leb·suc-suc}
 use Rattle.laws.proofs.Tests.{if-by, both, clash}
-use Rattle.banks.specs.Map.{mapped}
-use Rattle.banks.specs.declared.record.Record.{Record}
+use Rattle.records.specs.Map.{mapped}
+use Rattle.records.specs.declared.record.Record.{Record}
 use Rattle.hearing.specs.Meaning.{meaningOf, closes}
 use Rattle.hearing.specs.Pairs.{completes}
 use Rattle.hearing.specs.declared.rooms.Who.{Who}

@@ -5,7 +5,7 @@ use mathlib.Core.Bool.{Bool, true, false, not, _&&_, _||_}
 use mathlib.Core.List.{List}
 use lib.Dec.{leb, eqb}
 use Rattle.laws.specs.Choice.{if_then_else_}
-use Rattle.banks.specs.declared.record.Record.{Record}
+use Rattle.records.specs.declared.record.Record.{Record}
 use Rattle.memory.specs.Rooms.{stagedHolds, latchHolds}
 use Rattle.hearing.specs.Meaning.{meaningOf}
 use Rattle.hearing.specs.declared.meaning.Meaning.{Meaning}

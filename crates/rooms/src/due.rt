@@ -2,8 +2,8 @@
 ghost use mathlib.Core.Path.{_≡_};
 ghost use mathlib.Core.Bool.{true};
 ghost use Prim.Native.Nat.{_+_};
-ghost use Rattle.banks.specs.Map.{recordsOf};
-ghost use Rattle.banks.specs.Rules.{ordered};
+ghost use Rattle.records.specs.Map.{recordsOf};
+ghost use Rattle.records.specs.Order.{ordered};
 ghost use Rattle.rooms.specs.Due.{dtrOf, withDtr, groupByte, groupWord, inGroups, shortDue};
 ghost use Rattle.rooms.specs.Due.{writeDue, readDue, onceDue, pairDue, dueBy};
 use crate::state::Registers;
@@ -124,7 +124,7 @@ fn write_due(
     ensures { λ r. ⌜ r ≡ writeDue (recordsOf (now (map .entry))) enabled registers location byte replies ⌝ }
 {
     if enabled {
-        if banks::is_mapped(map, registers.dtr1) {
+        if records::is_mapped(map, registers.dtr1) {
             return Due::Writes(registers.dtr1, location, byte, replies);
         }
     }
@@ -136,7 +136,7 @@ fn read_due(map: &[u8], registers: Registers) -> Due
     requires { ⌜ ordered (now map) ≡ true ⌝ }
     ensures { λ r. ⌜ r ≡ readDue (recordsOf (now (map .entry))) registers ⌝ }
 {
-    if banks::is_mapped(map, registers.dtr1) {
+    if records::is_mapped(map, registers.dtr1) {
         return Due::Reads(registers.dtr1, registers.dtr0);
     }
     Due::Nothing

@@ -2,7 +2,7 @@
 ghost use mathlib.Core.Path.{_≡_};
 ghost use mathlib.Core.Bool.{true};
 ghost use lib.ListN.{length};
-ghost use Rattle.banks.specs.Map.{recordsOf};
+ghost use Rattle.records.specs.Map.{recordsOf};
 ghost use Rattle.banks.specs.Rules.{placed};
 ghost use Rattle.rooms.specs.Rules.{addressHolds, needsPair, waitingHolds, doorHolds, stateHolds};
 use crate::state::State;

@@ -11,7 +11,7 @@ use borrow.Author.Tests.{ltb-true, ne-eqb}
 use lib.ListN.{length}
 use Rattle.laws.specs.Choice.{if_then_else_}
 use Rattle.laws.specs.Outcome.{Gives}
-use Rattle.banks.specs.Map.{recordsOf}
+use Rattle.records.specs.Map.{recordsOf}
 use Rattle.banks.specs.Rules.{checkNumber}
 use Rattle.banks.specs.Facts.{Stands}
 use Rattle.banks.proofs.Standing.{stands}

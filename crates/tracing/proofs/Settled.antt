@@ -9,7 +9,7 @@ use Rattle.laws.proofs.Settled.{settles}
 use Rattle.tracing.specs.Trace.{Traced, whoOf}
 use Rattle.tracing.specs.Run.{Runs}
 use Rattle.tracing.specs.Promises.{RunSettled, EntrySettled, WhoSettled}
-use Rattle.tracing.specs.declared.records.Ran.{Ran}
+use Rattle.tracing.specs.declared.runs.Ran.{Ran}
 
 pub run-settled : RunSettled
 run-settled t before q r store stored output written p s = (

@@ -17,8 +17,9 @@ use Rattle.laws.specs.Numbers.{test, firstFailing}
 use Rattle.laws.proofs.Joined.{joined-none, joined-some}
 use Rattle.laws.proofs.Numbers.{exactly-if, none-exactly-if}
 use Rattle.laws.proofs.Settled.{settles}
-use Rattle.banks.specs.Map.{recordsOf}
-use Rattle.banks.specs.Rules.{sizeHolds, fieldsHold, rising, lengthsHold, placesHold, checkTests, checkNumber}
+use Rattle.records.specs.Map.{recordsOf}
+use Rattle.records.specs.Order.{sizeHolds, fieldsHold, rising}
+use Rattle.banks.specs.Rules.{lengthsHold, placesHold, checkTests, checkNumber}
 use Rattle.hearing.specs.declared.rooms.Who.{Who}
 use Rattle.rooms.specs.Rules.{addressHolds}
 use Rattle.numbers.specs.Numbers.{startNumber}

@@ -24,7 +24,7 @@ use Rattle.tracing.specs.Entry.{entryAt, entries, isBroken, Reads}
 use Rattle.tracing.specs.Trace.{Traced, tracedOf}
 use Rattle.tracing.specs.Run.{turnOf, behind, continued, soFar, Begins, Turns, roomFor, Runs}
 use Rattle.tracing.specs.declared.entry.Entry.{Entry}
-use Rattle.tracing.specs.declared.records.Ran.{Ran}
+use Rattle.tracing.specs.declared.runs.Ran.{Ran}
 use Rattle.tracing.proofs.Checks.{one-check}
 use Rattle.tracing.proofs.Continued.{continued-more, continued-none, continued-ended}
 use Rattle.tracing.proofs.Written.{front-put, back-put}

@@ -22,7 +22,7 @@ use Rattle.tracing.specs.Trace.{Traced, tracedOf, broken, whoOf, fileTes
 use Rattle.tracing.specs.Run.{turnOf, continued, Runs}
 use Rattle.tracing.specs.Slices.{Keeps}
 use Rattle.tracing.specs.declared.entry.Entry.{Entry}
-use Rattle.tracing.specs.declared.records.Ran.{Ran}
+use Rattle.tracing.specs.declared.runs.Ran.{Ran}
 
 -- ---- one after the other
 

@@ -16,7 +16,7 @@ use Rattle.unit.specs.Step.{stepOf, powerOnOf}
 use Rattle.tracing.specs.Entry.{entryAt}
 use Rattle.tracing.specs.Trace.{Traced, tracedOf}
 use Rattle.tracing.specs.declared.entry.Entry.{Entry}
-use Rattle.tracing.specs.declared.records.Ran.{Ran}
+use Rattle.tracing.specs.declared.runs.Ran.{Ran}
 
 -- a record is handed to its public call; a broken one gets 13, and state and store stay
 unfoldable pub turnOf : List ℕ → List ℕ → List ℕ → State → Entry → Outcome Stepped

@@ -10,7 +10,7 @@ use lib.ListN.{length}
 use Rattle.laws.specs.Lists.{every}
 use Rattle.laws.specs.Outcome.{Outcome}
 use Rattle.laws.proofs.Tests.{if-eq, both}
-use Rattle.banks.specs.Map.{writable}
+use Rattle.records.specs.Map.{writable}
 use Rattle.memory.specs.Promises.{ChangesOnly}
 use Rattle.rooms.specs.State.{zeroState}
 use Rattle.rooms.specs.declared.state.State.{State}

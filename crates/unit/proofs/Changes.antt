@@ -9,13 +9,14 @@ use borrow.Author.Tests.{eqb-true, eq-eqb}
 use lib.ListN.{length}
 use Rattle.laws.specs.Outcome.{Outcome}
 use Rattle.laws.proofs.Sides.{and-left, and-right}
-use Rattle.banks.specs.Map.{recordsOf, writable}
+use Rattle.records.specs.Map.{recordsOf, writable}
+use Rattle.records.specs.Facts.{Member}
+use Rattle.records.specs.declared.record.Record.{Record}
 use Rattle.banks.specs.Rules.{placed}
-use Rattle.banks.specs.Lookup.{valueOf}
-use Rattle.banks.specs.Facts.{Member, Stands}
-use Rattle.banks.specs.declared.record.Record.{Record}
+use Rattle.banks.specs.Values.{valueOf}
+use Rattle.banks.specs.Facts.{Stands}
 use Rattle.banks.proofs.Standing.{check-stands}
-use Rattle.banks.proofs.Locations.{holder-within}
+use Rattle.banks.proofs.Places.{holder-within}
 use Rattle.memory.specs.Promises.{ChangesOnly, Takes, locksBank}
 use Rattle.memory.specs.Staged.{writeOf}
 use Rattle.memory.specs.Latched.{noneLatched}

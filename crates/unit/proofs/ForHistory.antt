@@ -16,9 +16,9 @@ use Rattle.laws.specs.Numbers.{Test, test}
 use Rattle.laws.specs.Outcome.{Outcome, leaves}
 use Rattle.laws.proofs.Tests.{both, and-of}
 use Rattle.laws.proofs.Numbers.{none-exactly-if}
-use Rattle.banks.specs.Map.{recordsOf, mapped}
+use Rattle.records.specs.Map.{recordsOf, mapped}
+use Rattle.records.specs.declared.record.Record.{Record}
 use Rattle.banks.specs.Rules.{checkTests, checkNumber}
-use Rattle.banks.specs.declared.record.Record.{Record}
 use Rattle.banks.specs.Facts.{Stands}
 use Rattle.banks.proofs.Standing.{stands}
 use Rattle.memory.specs.Staged.{writeOf}

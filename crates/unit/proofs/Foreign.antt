@@ -11,8 +11,8 @@ use Rattle.laws.proofs.Tests.{both, clash}
 use Rattle.frames.specs.Read.{readOf}
 use Rattle.frames.specs.declared.message.Message.{Message}
 use Rattle.frames.specs.declared.message.Reading.{Reading}
-use Rattle.banks.specs.Map.{recordsOf}
-use Rattle.banks.specs.declared.record.Record.{Record}
+use Rattle.records.specs.Map.{recordsOf}
+use Rattle.records.specs.declared.record.Record.{Record}
 use Rattle.hearing.specs.Meaning.{meaningOf, readingMeaning}
 use Rattle.hearing.specs.Pairs.{noneWaits, waitsFor, completes}
 use Rattle.hearing.specs.declared.rooms.Who.{Who}

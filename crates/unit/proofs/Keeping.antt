@@ -9,9 +9,9 @@ use lib.ListN.{length}
 use Rattle.laws.specs.Outcome.{Outcome}
 use Rattle.laws.proofs.Tests.{both}
 use Rattle.laws.proofs.Sides.{and-right}
-use Rattle.banks.specs.Map.{recordsOf}
+use Rattle.records.specs.Map.{recordsOf}
+use Rattle.records.specs.declared.record.Record.{Record}
 use Rattle.banks.specs.Rules.{placed}
-use Rattle.banks.specs.declared.record.Record.{Record}
 use Rattle.memory.specs.Rooms.{stagedHolds, latchHolds}
 use Rattle.memory.proofs.StagedRoom.{none-staged-holds, write-keeps-rule}
 use Rattle.memory.proofs.LatchRoom.{read-keeps-rule}

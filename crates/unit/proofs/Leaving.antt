@@ -6,7 +6,7 @@ use mathlib.Core.Bool.{Bool, true, false, _&&_}
 use mathlib.Core.List.{List}
 use borrow.Author.Tests.{eq-eqb, ne-eqb}
 use Rattle.laws.specs.Outcome.{Outcome}
-use Rattle.banks.specs.declared.record.Record.{Record}
+use Rattle.records.specs.declared.record.Record.{Record}
 use Rattle.memory.specs.Staged.{writeOf}
 use Rattle.hearing.specs.declared.rooms.Heard.{Heard}
 use Rattle.rooms.specs.State.{withWho, withRegisters, withWaiting, withDoor, withLatch}

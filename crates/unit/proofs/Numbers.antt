@@ -8,8 +8,8 @@ use borrow.Author.Tests.{eq-eqb, ne-eqb}
 use Rattle.laws.specs.Outcome.{Outcome}
 use Rattle.laws.proofs.Settled.{settles-both}
 use Rattle.laws.proofs.Tests.{if-eq}
-use Rattle.banks.specs.Map.{recordsOf}
-use Rattle.banks.specs.declared.record.Record.{Record}
+use Rattle.records.specs.Map.{recordsOf}
+use Rattle.records.specs.declared.record.Record.{Record}
 use Rattle.hearing.specs.declared.rooms.Heard.{Heard}
 use Rattle.rooms.specs.Reply.{quiet, answering, refusing}
 use Rattle.rooms.specs.State.{zeroState}

@@ -11,7 +11,7 @@ use Rattle.laws.specs.Numbers.{Test, firstFailing, numbered}
 use Rattle.laws.proofs.Sides.{and-left}
 use Rattle.laws.proofs.Numbers.{none-exactly-if}
 use Rattle.laws.proofs.Joined.{joined-none, joined-some}
-use Rattle.banks.specs.Map.{recordsOf}
+use Rattle.records.specs.Map.{recordsOf}
 use Rattle.banks.specs.Rules.{checkTests, checkNumber}
 use Rattle.banks.specs.Facts.{Stands}
 use Rattle.banks.proofs.Standing.{check-stands}

@@ -10,11 +10,11 @@ use lib.Dec.{ltb}
 use lib.ListN.{length, getD}
 use Rattle.laws.specs.Lists.{every}
 use Rattle.laws.specs.Outcome.{Outcome}
-use Rattle.banks.specs.Map.{recordsOf, writable, placesEnd, mapped}
+use Rattle.records.specs.Map.{recordsOf, writable, placesEnd, mapped}
+use Rattle.records.specs.Facts.{Member}
+use Rattle.records.specs.declared.record.Record.{Record}
 use Rattle.banks.specs.Rules.{isLock}
-use Rattle.banks.specs.Lookup.{valueOf, lockByte}
-use Rattle.banks.specs.Facts.{Member}
-use Rattle.banks.specs.declared.record.Record.{Record}
+use Rattle.banks.specs.Values.{valueOf, lockByte}
 use Rattle.memory.specs.Promises.{ChangesOnly}
 use Rattle.hearing.specs.declared.rooms.Who.{Who}
 use Rattle.hearing.specs.declared.rooms.Heard.{Heard}

@@ -10,8 +10,8 @@ use Rattle.laws.specs.Outcome.{Outcome, leaves}
 use Rattle.frames.specs.Read.{readOf}
 use Rattle.frames.specs.declared.message.Message.{Message}
 use Rattle.frames.specs.declared.message.Reading.{Reading}
-use Rattle.banks.specs.Map.{recordsOf}
-use Rattle.banks.specs.declared.record.Record.{Record}
+use Rattle.records.specs.Map.{recordsOf}
+use Rattle.records.specs.declared.record.Record.{Record}
 use Rattle.hearing.specs.Meaning.{meaningOf, closes}
 use Rattle.hearing.specs.Pairs.{noneWaits, waitsFor}
 use Rattle.hearing.specs.declared.rooms.Heard.{Heard}

@@ -7,8 +7,8 @@ use lib.Dec.{eqb}
 use lib.ListN.{length}
 use Rattle.laws.specs.Choice.{if_then_else_}
 use Rattle.laws.specs.Outcome.{Outcome, leaves}
-use Rattle.banks.specs.Map.{recordsOf}
-use Rattle.banks.specs.declared.record.Record.{Record}
+use Rattle.records.specs.Map.{recordsOf}
+use Rattle.records.specs.declared.record.Record.{Record}
 use Rattle.memory.specs.Staged.{writeOf}
 use Rattle.memory.specs.Latched.{readOf}
 use Rattle.memory.specs.Filled.{filledOf}

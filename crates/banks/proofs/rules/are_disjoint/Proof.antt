@@ -4,9 +4,10 @@ use Prim.Native.Nat.{_-_, _/_}
 use mathlib.Core.Path.{_≡_, ap}
 use native.Mathlib.Omega.{arith}
 use lib.ListN.{length}
-use Rattle.banks.specs.Map.{recordsOf}
+use Rattle.records.specs.Map.{recordsOf}
+use Rattle.records.proofs.Walk.{from, at-start, at-end}
 use Rattle.banks.specs.Rules.{disjoint}
-use Rattle.banks.proofs.Walk.{from, at-start, at-end, disjoint-stops, disjoint-goes-on}
+use Rattle.banks.proofs.Places.{disjoint-stops, disjoint-goes-on}
 use Rattle.banks.proofs.rules.are_disjoint.Statement.{statement}
 use Rattle.banks.proofs.rules.are_disjoint.Tie as tie
 

@@ -6,9 +6,9 @@ use native.Mathlib.Omega.{arith}
 use borrow.Author.Needs.{needs}
 use lib.ListN.{length}
 use Rattle.laws.specs.Lists.{every}
-use Rattle.banks.specs.Map.{recordsOf}
+use Rattle.records.specs.Map.{recordsOf}
+use Rattle.records.proofs.Walk.{from, at-start, at-end, every-stops, every-goes-on}
 use Rattle.banks.specs.Rules.{bankHolds, banksHold}
-use Rattle.banks.proofs.Walk.{from, at-start, at-end, every-stops, every-goes-on}
 use Rattle.banks.proofs.rules.banks_hold.Statement.{statement}
 use Rattle.banks.proofs.rules.banks_hold.Tie as tie
 

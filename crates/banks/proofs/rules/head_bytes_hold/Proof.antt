@@ -5,10 +5,10 @@ use mathlib.Core.Path.{_≡_, ap}
 use native.Mathlib.Omega.{arith}
 use lib.ListN.{length}
 use Rattle.laws.specs.Lists.{every}
-use Rattle.banks.specs.Map.{recordsOf}
+use Rattle.records.specs.Map.{recordsOf}
+use Rattle.records.proofs.Walk.{from, at-start, at-end, member, every-stops, every-goes-on}
 use Rattle.banks.specs.Rules.{headHolds, headBytesHold}
-use Rattle.banks.proofs.Members.{member-inside}
-use Rattle.banks.proofs.Walk.{from, at-start, at-end, member, every-stops, every-goes-on}
+use Rattle.banks.proofs.Places.{member-inside}
 use Rattle.banks.proofs.rules.head_bytes_hold.Statement.{statement}
 use Rattle.banks.proofs.rules.head_bytes_hold.Tie as tie
 

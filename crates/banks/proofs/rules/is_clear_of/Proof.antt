@@ -5,8 +5,8 @@ use mathlib.Core.Path.{_≡_}
 use native.Mathlib.Omega.{arith}
 use lib.ListN.{length}
 use Rattle.laws.specs.Lists.{every}
+use Rattle.records.proofs.Walk.{from, at-end, every-stops, every-goes-on}
 use Rattle.banks.specs.Rules.{clear}
-use Rattle.banks.proofs.Walk.{from, at-end, every-stops, every-goes-on}
 use Rattle.banks.proofs.rules.is_clear_of.Statement.{statement}
 use Rattle.banks.proofs.rules.is_clear_of.Tie as tie
 

@@ -1,7 +1,6 @@
 -- `looks::looked::look_at` meets its contract.
 -- Assumes nothing.
 use mathlib.Core.Path.{sym, _∙_}
-use Rattle.banks.specs.Lookup.{beginner}
 use Rattle.banks.proofs.Standing.{stands}
 use Rattle.looks.proofs.Looks.{look-refused, look-sound}
 use Rattle.looks.proofs.looked.look_at.Statement.{statement}
@@ -13,9 +12,8 @@ returns c =
     (sym (c .before .before .check-number .ensures)))
 
 returns-2 : tie.Need-returns-2
-unfolding beginner
 returns-2 c =
-    rw (c .place-of .ensures, c .before .lookup .ensures)
+    rw (c .place-of .ensures, c .before .value-at .ensures)
     (sym (look-sound _ _ _ _ (sym (c .before .before .before .check-number .ensures) ∙ c .before .before .if1 .left)))
 
 pub look-at-spec : {M : Type 1} → statement M

@@ -3,7 +3,7 @@
 use mathlib.Core.Path.{sym, _∙_}
 use Rattle.laws.specs.Parts.{put}
 use Rattle.laws.proofs.Copies.{lent-whole}
-use Rattle.banks.specs.Lookup.{valueOf, putValue}
+use Rattle.banks.specs.Values.{valueOf, putValue}
 use Rattle.memory.specs.Filled.{fresh}
 use borrow.Author.Needs.{needs}
 use Rattle.memory.proofs.filled.freshen.Statement.{statement}

@@ -1,7 +1,7 @@
 -- `memory::latched::read_byte` meets its contract.
 -- Assumes nothing.
 use mathlib.Core.Path.{sym, _∙_}
-use Rattle.banks.proofs.Members.{placed-ordered}
+use Rattle.banks.proofs.Places.{placed-ordered}
 use Rattle.memory.specs.Latched.{readOf, readAt}
 use Rattle.memory.proofs.Reaching.{reaches}
 use borrow.Author.Needs.{needs}

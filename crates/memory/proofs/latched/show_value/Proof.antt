@@ -1,7 +1,7 @@
 -- `memory::latched::show_value` meets its contract.
 -- Assumes nothing.
 use Rattle.laws.proofs.Copies.{lent}
-use Rattle.banks.specs.Lookup.{valueOf}
+use Rattle.banks.specs.Values.{valueOf}
 use borrow.Author.Needs.{needs}
 use Rattle.memory.proofs.latched.show_value.Statement.{statement}
 use Rattle.memory.proofs.latched.show_value.Tie as tie

@@ -13,6 +13,6 @@ latch-holds-spec =
     (tie.spec
     (λ c κs. search needs)
     (λ c κs. search needs)
-    (λ c. if-yes _ _ (c .before .before .if1 .taken) (rw (← c .before .value-from .ensures) (c .latched-in .ensures)))
+    (λ c. if-yes _ _ (c .before .before .if1 .taken) (rw (← c .before .value-at .ensures) (c .latched-in .ensures)))
     (λ c κs. search needs)
     (λ c. if-no _ _ (c .before .before .before .before .if1 .left) (rw (← c .before .before .is-zero-from .ensures))))

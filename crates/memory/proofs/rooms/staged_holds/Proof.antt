@@ -1,7 +1,7 @@
 -- `memory::rooms::staged_holds` meets its contract.
 -- Assumes nothing.
 use borrow.Author.Tests.{eq-eqb, ne-eqb}
-use Rattle.banks.proofs.Members.{placed-ordered}
+use Rattle.banks.proofs.Places.{placed-ordered}
 use Rattle.memory.specs.Rooms.{stagedHolds}
 use borrow.Author.Needs.{needs}
 use Rattle.memory.proofs.rooms.staged_holds.Statement.{statement}
@@ -16,4 +16,4 @@ staged-holds-spec =
     (λ c. rw (eq-eqb _ _ (c .before .before .before .before .if1 .taken), ← c .before .before .is-zero-from .ensures))
     (λ c κs. placed-ordered _ _ (c .before .before .before .before .pre))
     (λ c κs. search needs)
-    (λ c. rw (ne-eqb _ _ (c .before .before .if1 .left), ← c .before .value-from .ensures) (c .staged-in .ensures)))
+    (λ c. rw (ne-eqb _ _ (c .before .before .if1 .left), ← c .before .value-at .ensures) (c .staged-in .ensures)))

@@ -19,7 +19,7 @@ staged-in-spec =
     (λ c.
     let told = c .before .before .before .before .before .before in
     rw (
-      told .before .before .before .found .given .1,
+      told .before .before .before .value .given .1,
       ← told .before .is-writable .ensures,
       ← told .is-unlocked .ensures,
       ← c .before .before .before .is-zero-from .ensures,

@@ -1,7 +1,7 @@
 -- `memory::staged::write_byte` meets its contract.
 -- Assumes nothing.
 use mathlib.Core.Path.{refl, sym, _∙_}
-use Rattle.banks.proofs.Members.{placed-ordered}
+use Rattle.banks.proofs.Places.{placed-ordered}
 use Rattle.memory.specs.Staged.{writeOf, writeAt}
 use Rattle.memory.proofs.Reaching.{reaches}
 use borrow.Author.Needs.{needs}

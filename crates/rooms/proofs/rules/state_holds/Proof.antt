@@ -1,7 +1,7 @@
 -- `rooms::rules::state_holds` meets its contract.
 -- Assumes nothing.
 use borrow.Author.Needs.{needs}
-use Rattle.banks.proofs.Members.{placed-ordered}
+use Rattle.banks.proofs.Places.{placed-ordered}
 use Rattle.rooms.specs.Rules.{stateHolds}
 use Rattle.rooms.proofs.rules.state_holds.Statement.{statement}
 use Rattle.rooms.proofs.rules.state_holds.Tie as tie

@@ -2,7 +2,7 @@
 -- Assumes nothing.
 use mathlib.Core.Path.{refl, ap, _∙_}
 use borrow.Author.Needs.{needs}
-use Rattle.banks.proofs.Members.{placed-ordered}
+use Rattle.banks.proofs.Places.{placed-ordered}
 use Rattle.hearing.specs.Meaning.{meaningOf}
 use Rattle.rooms.specs.Reply.{quiet}
 use Rattle.rooms.specs.Due.{dueBy, dueOf}

@@ -1,9 +1,0 @@
--- `banks::rules::lockable_holds` meets its contract.
--- Assumes nothing.
-use Rattle.banks.proofs.rules.lockable_holds.Statement.{statement}
-use Rattle.banks.proofs.rules.lockable_holds.Tie as tie
-
-pub lockable-holds-spec : {M : Type 1} → statement M
-lockable-holds-spec = tie.close (tie.spec
-    (λ c κs. tt)
-    (λ c. rw (c .before .before .is-writable .ensures)))

@@ -1,0 +1,6 @@
+pub mod Map
+pub mod Order
+pub mod Lookup
+pub mod Facts
+pub mod Promises
+pub mod Cases

@@ -1,0 +1,70 @@
+-- What is proved of a map by itself: the numbers, the records, the look-up. The proofs stand in proofs/.
+-- Assumes nothing.
+use mathlib.Core.Path.{_≡_}
+use mathlib.Core.Logic.{_↔_}
+use mathlib.Core.Bool.{true, false}
+use mathlib.Core.List.{List}
+use Prim.Native.Nat.{ℕ, _/_, _<_}
+use lib.ListN.{length}
+use Rattle.laws.specs.Numbers.{Given}
+use Rattle.laws.specs.Settled.{Settles}
+use Rattle.records.specs.Map.{recordAt, recordsOf, mapped}
+use Rattle.records.specs.Order.{ordered, orderTests, orderNumber}
+use Rattle.records.specs.Lookup.{holds, holder, beginner}
+use Rattle.records.specs.Facts.{Member, Fielded, Before, Holds}
+use Rattle.records.specs.declared.record.Record.{Record}
+use Rattle.records.specs.declared.holder.Beginning.the-variants.{Begins}
+use Rattle.records.specs.declared.holder.Found.the-variants.{At, Nothing}
+
+-- The numbers.
+
+-- 7 to 9 are given exactly if every test before passes and that one fails
+abbrev pub OrderNumbers : Type 0
+OrderNumbers = (map : List ℕ) (n : ℕ) → 0 < n → (orderNumber map ≡ n) ↔ Given (orderTests map) n
+
+-- 0 is given exactly if 7, 8 and 9 hold
+abbrev pub OrderStands : Type 0
+OrderStands = (map : List ℕ) → (orderNumber map ≡ 0) ↔ (ordered map ≡ true)
+
+-- The records of a map.
+
+-- 8
+abbrev pub MemberFields : Type 0
+MemberFields = (map : List ℕ) → ordered map ≡ true → (r : Record) → Member r map → Fielded r
+
+-- 9: of two records the one with the lower number stands before
+abbrev pub MembersRise : Type 0
+MembersRise =
+    (map : List ℕ) → ordered map ≡ true → (i j : ℕ) → i < j → j < length map / 8
+    → Before (recordAt map i) (recordAt map j)
+
+-- The record that holds a location.
+
+-- a location lies in at most one record: one that holds it is what is found
+abbrev pub HolderHit : Type 0
+HolderHit =
+    (map : List ℕ) → ordered map ≡ true → (bank location : ℕ) (r : Record) → Member r map → Holds r bank location
+    → holder (recordsOf map) bank location ≡ At r
+
+-- nothing is found exactly if no record holds it
+abbrev pub HolderNone : Type 0
+HolderNone =
+    (map : List ℕ) (bank location : ℕ)
+    → (holder (recordsOf map) bank location ≡ Nothing) ↔ ((r : Record) → Member r map → holds r bank location ≡ false)
+
+-- a record is found at its first location, and begins there
+abbrev pub FirstFound : Type 0
+FirstFound =
+    (map : List ℕ) → ordered map ≡ true → (r : Record) → Member r map
+    → (holder (recordsOf map) (r .bank) (r .first) ≡ At r) × (beginner (recordsOf map) (r .bank) (r .first) ≡ Begins r)
+
+-- a bank is mapped exactly if it has a record
+abbrev pub MappedMember : Type 0
+MappedMember =
+    (map : List ℕ) (bank : ℕ)
+    → (mapped (recordsOf map) bank ≡ true) ↔ ((r : Record) × Member r map × (r .bank ≡ bank))
+
+-- Answers that meet the same promise are equal.
+
+abbrev pub OrderSettled : Type 0
+OrderSettled = (map : List ℕ) → Settles (λ (r : ℕ). r ≡ orderNumber map)
