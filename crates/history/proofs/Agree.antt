@@ -41,7 +41,7 @@ use Rattle.unit.proofs.ForHistory.{Rooms, roomsOf, power-rooms, foreign-leaves,
 use Rattle.unit.proofs.ForHistory.{dtr-leaves, dtrs-leaves, read-leaves, WritesAt, at-dtr0, at-offset, write-leaves}
 use Rattle.unit.proofs.ForHistory.{no-write-leaves}
 use Rattle.unit.proofs.ForHistory.{reset-leaves, enable-leaves, short-leaves, add-leaves, remove-leaves, half-leaves}
-use Rattle.history.specs.Machine.{Left, after, Accepted, unitMachine}
+use Rattle.history.specs.Machine.{Left, Start, after, Accepted, unitMachine}
 use Rattle.history.specs.Pairs.{endsPair}
 use Rattle.history.specs.Deeds.{Context, Deed, opens, resets, puts, keeps, breaks, powers, executes, writeDeed}
 use Rattle.history.specs.Deeds.{onceDeed, pairDeed, deedBy, deedOf, keeping, enabledBy}
@@ -196,40 +196,43 @@ roomsIn l =
       store = l .store;
     }
 
-module _ (map store image : List ℕ) (who : Who) where
+module _ (start : Start) where
+  abbrev pub records : List Record
+  records = recordsOf (start .map)
+
   abbrev pub Runs : List Input → Type 0
-  Runs h = Accepted unitMachine map store image who h
+  Runs h = Accepted unitMachine start h
 
   abbrev pub at : List Input → Left State
-  at h = after unitMachine map store image who h
+  at h = after unitMachine start h
 
   frame-rooms : (x : Heard) (h : List Input) → Runs (hears x ∷ h)
-      → roomsIn (at (hears x ∷ h)) ≡ roomsOf (frameOf (recordsOf map) (at h .store) image (at h .state) x)
+      → roomsIn (at (hears x ∷ h)) ≡ roomsOf (frameOf records (at h .store) (start .image) (at h .state) x)
   unfolding unitMachine
   frame-rooms x h A = ap (λ (o : Outcome Stepped). roomsOf o)
-      (step-accepted map (at h .store) image (at h .state) x (A .0) .1)
+      (step-accepted (start .map) (at h .store) (start .image) (at h .state) x (A .0) .1)
 
   -- start and power-on
-  fresh-rooms : (s : List ℕ) (w : Who) (l : Left State) → roomsIn l ≡ roomsOf (powerOf (recordsOf map) s image w)
+  fresh-rooms : (s : List ℕ) (w : Who) (l : Left State) → roomsIn l ≡ roomsOf (powerOf records s (start .image) w)
       → roomsIn l ≡ record {
         who = w;
         registers = zeroRegisters;
         waiting = noneWaits;
         door = shutDoor;
-        store =
-            filledOf (recordsOf map) s image PowerOn;
+        store = filledOf records s (start .image) PowerOn;
       }
-  fresh-rooms s w l e = e ∙ power-rooms (recordsOf map) s image w
+  fresh-rooms s w l e = e ∙ power-rooms records s (start .image) w
 
-  start-rooms : Runs [] → roomsIn (at []) ≡ roomsOf (powerOf (recordsOf map) store image who)
+  start-rooms : Runs [] → roomsIn (at []) ≡ roomsOf (powerOf records (start .store) (start .image) (start .who))
   unfolding unitMachine
-  start-rooms A = ap (λ (o : Outcome Stepped). roomsOf o) (start-accepted map store image who A .1)
+  start-rooms A = ap (λ (o : Outcome Stepped). roomsOf o)
+      (start-accepted (start .map) (start .store) (start .image) (start .who) A .1)
 
   power-rooms-at : (h : List Input) → Runs (power-on ∷ h)
-      → roomsIn (at (power-on ∷ h)) ≡ roomsOf (powerOf (recordsOf map) (at h .store) image (at h .state .who))
+      → roomsIn (at (power-on ∷ h)) ≡ roomsOf (powerOf records (at h .store) (start .image) (at h .state .who))
   unfolding unitMachine
   power-rooms-at h A = ap (λ (o : Outcome Stepped). roomsOf o)
-      (power-accepted map (at h .store) image (at h .state) (A .0) .1)
+      (power-accepted (start .map) (at h .store) (start .image) (at h .state) (A .0) .1)
 
   -- a pair command for the unit makes a pair with the waiting frame exactly if it ends a pair of the list
   pub halves : (h : List Input) → Runs h → (x : Heard) (c : Twice)
@@ -238,7 +241,7 @@ module _ (map store image : List ℕ) (who : Who) where
   unfolding endsPair
   halves [] A x c e =
       let w : at [] .state .waiting ≡ noneWaits = ap (λ (r : Rooms). r .waiting)
-      (fresh-rooms store who (at []) (start-rooms A)) in
+      (fresh-rooms (start .store) (start .who) (at []) (start-rooms A)) in
       rw w (none-completes x)
   halves (power-on ∷ h) A x c e =
       let w : at (power-on ∷ h) .state .waiting ≡ noneWaits =
@@ -248,7 +251,7 @@ module _ (map store image : List ℕ) (who : Who) where
   halves (hears y ∷ h) A x c e =
       let s : State = at h .state in
       let m : Meaning = meaningOf (s .who) (y .frame) in
-      let M = moves (recordsOf map) image (at h .store) s y m (endsPair h y) refl (λ d q. halves h (A .1) y d q) in
+      let M = moves records (start .image) (at h .store) s y m (endsPair h y) refl (λ d q. halves h (A .1) y d q) in
       let F = frame-rooms y h A in
       let w : at (hears y ∷ h) .state .waiting ≡ waitingBy y (endsPair h y) m = ap (λ (r : Rooms). r .waiting) F
       ∙ ap (λ (u : View). u .waiting) M in
@@ -260,30 +263,30 @@ module _ (map store image : List ℕ) (who : Who) where
   frame-moved : (x : Heard) (h : List Input) → Runs (hears x ∷ h)
       → let s : State = at h .state in let m : Meaning = meaningOf (s .who) (x .frame) in
       view (roomsIn (at (hears x ∷ h)))
-      ≡ viewBy (recordsOf map) image (at h .store) (s .door .staged)
-      (heardIn (recordsOf map) (contextIn s) (endsPair h x) m) (waitingBy x (endsPair h x) m)
-      (deedOf (recordsOf map) (contextIn s) (endsPair h x) m)
+      ≡ viewBy records (start .image) (at h .store) (s .door .staged)
+      (heardIn records (contextIn s) (endsPair h x) m) (waitingBy x (endsPair h x) m)
+      (deedOf records (contextIn s) (endsPair h x) m)
   frame-moved x h A =
       ap view (frame-rooms x h A)
-      ∙ moves (recordsOf map) image (at h .store) (at h .state) x _ (endsPair h x) refl (λ c q. halves h (A .1) x c q)
+      ∙ moves records (start .image) (at h .store) (at h .state) x _ (endsPair h x) refl (λ c q. halves h (A .1) x c q)
 
   -- the unit's context is the grammar's
-  pub agree : (h : List Input) → Runs h → contextIn (at h .state) ≡ context (recordsOf map) who h
+  pub agree : (h : List Input) → Runs h → contextIn (at h .state) ≡ context records (start .who) h
   unfolding context poweredIn meant
-  agree [] A = ap contextOf (fresh-rooms store who (at []) (start-rooms A))
+  agree [] A = ap contextOf (fresh-rooms (start .store) (start .who) (at []) (start-rooms A))
   agree (power-on ∷ h) A =
       ap contextOf (fresh-rooms (at h .store) (at h .state .who) (at (power-on ∷ h)) (power-rooms-at h A))
       ∙ ap (λ (k : Context). poweredIn (k .who)) (agree h (A .1))
   agree (hears x ∷ h) A =
       ap (λ (u : View). u .context) (frame-moved x h A)
-      ∙ ap (λ (k : Context). heardIn (recordsOf map) k (endsPair h x) (meant k x)) (agree h (A .1))
+      ∙ ap (λ (k : Context). heardIn records k (endsPair h x) (meant k x)) (agree h (A .1))
 
   -- what an input does to the staged bytes and to the store, by the grammar's reading of it
   pub record Done (x : Input) (h : List Input) : Type 0 where
     pub staged-is : at (x ∷ h) .state .door .staged
-        ≡ stagedBy (recordsOf map) (at h .store) (at h .state .door .staged) (deedAfter (recordsOf map) who h x)
-    pub store-is : at (x ∷ h) .store ≡ storeBy (recordsOf map) image (at h .store) (at h .state .door .staged)
-        (deedAfter (recordsOf map) who h x)
+        ≡ stagedBy records (at h .store) (at h .state .door .staged) (deedAfter records (start .who) h x)
+    pub store-is : at (x ∷ h) .store ≡ storeBy records (start .image) (at h .store) (at h .state .door .staged)
+        (deedAfter records (start .who) h x)
 
   pub done-by : (x : Input) (h : List Input) → Runs (x ∷ h) → Done x h
   unfolding deedAfter meant stagedBy storeBy
@@ -292,30 +295,31 @@ module _ (map store image : List ℕ) (who : Who) where
       record { staged-is = ap (λ (r : Rooms). r .door .staged) F; store-is = ap (λ (r : Rooms). r .store) F }
   done-by (hears x) h A =
       let M = frame-moved x h A in
-      let d : deedOf (recordsOf map) (contextIn (at h .state)) (endsPair h x) (meaningOf (at h .state .who) (x .frame))
-      ≡ deedAfter (recordsOf map) who h (hears x) =
-      ap (λ (k : Context). deedOf (recordsOf map) k (endsPair h x) (meant k x)) (agree h (A .1)) in
+      let d : deedOf records (contextIn (at h .state)) (endsPair h x) (meaningOf (at h .state .who) (x .frame))
+      ≡ deedAfter records (start .who) h (hears x) =
+      ap (λ (k : Context). deedOf records k (endsPair h x) (meant k x)) (agree h (A .1)) in
       record {
         staged-is = ap (λ (u : View). u .staged) M
-            ∙ ap (stagedBy (recordsOf map) (at h .store) (at h .state .door .staged)) d;
+            ∙ ap (stagedBy records (at h .store) (at h .state .door .staged)) d;
         store-is = ap (λ (u : View). u .store) M
-            ∙ ap (storeBy (recordsOf map) image (at h .store) (at h .state .door .staged)) d;
+            ∙ ap (storeBy records (start .image) (at h .store) (at h .state .door .staged)) d;
       }
 
   -- the start leaves nothing staged, and the store filled
   pub start-staged : Runs [] → at [] .state .door .staged ≡ noneStaged
-  start-staged A = ap (λ (r : Rooms). r .door .staged) (fresh-rooms store who (at []) (start-rooms A))
+  start-staged A = ap (λ (r : Rooms). r .door .staged) (fresh-rooms (start .store) (start .who) (at []) (start-rooms A))
 
-  pub start-store : Runs [] → at [] .store ≡ filledOf (recordsOf map) store image PowerOn
-  start-store A = ap (λ (r : Rooms). r .store) (fresh-rooms store who (at []) (start-rooms A))
+  pub start-store : Runs [] → at [] .store ≡ filledOf records (start .store) (start .image) PowerOn
+  start-store A = ap (λ (r : Rooms). r .store) (fresh-rooms (start .store) (start .who) (at []) (start-rooms A))
 
   -- what an accepted input was handed
-  pub ready : (x : Input) (h : List Input) → Runs (x ∷ h) → Ready map (at h .store) image (at h .state)
+  pub ready : (x : Input) (h : List Input) → Runs (x ∷ h)
+      → Ready (start .map) (at h .store) (start .image) (at h .state)
   unfolding unitMachine
-  ready power-on h A = power-accepted map (at h .store) image (at h .state) (A .0) .0
-  ready (hears x) h A = step-accepted map (at h .store) image (at h .state) x (A .0) .0
+  ready power-on h A = power-accepted (start .map) (at h .store) (start .image) (at h .state) (A .0) .0
+  ready (hears x) h A = step-accepted (start .map) (at h .store) (start .image) (at h .state) x (A .0) .0
 
-  pub start-stands : (h : List Input) → Runs h → Stands map store (length image)
+  pub start-stands : (h : List Input) → Runs h → Stands (start .map) (start .store) (length (start .image))
   unfolding unitMachine
-  start-stands [] A = start-accepted map store image who A .0
+  start-stands [] A = start-accepted (start .map) (start .store) (start .image) (start .who) A .0
   start-stands (x ∷ h) A = start-stands h (A .1)
