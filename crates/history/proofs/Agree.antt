@@ -45,8 +45,8 @@ use Rattle.history.specs.Machine.{Left, Start, after, Accepted, unitMach
 use Rattle.history.specs.Pairs.{endsPair}
 use Rattle.history.specs.Deeds.{Context, Deed, opens, resets, puts, keeps, breaks, powers, executes, writeDeed}
 use Rattle.history.specs.Deeds.{onceDeed, pairDeed, deedBy, deedOf, keeping, enabledBy}
-use Rattle.history.specs.Context.{raisedFrom, onceRegisters, registersOf, pairWho, whoOf, meant, heardIn}
-use Rattle.history.specs.Context.{poweredIn, context, deedAfter}
+use Rattle.history.specs.Context.{raisedFrom, onceRegisters, registersOf, pairWho, whoOf, meant, deedIn}
+use Rattle.history.specs.Context.{heardIn, poweredIn, context, deedAfter}
 
 -- the unit's rooms, as a context
 abbrev pub contextIn : State → Context
@@ -71,6 +71,15 @@ storeBy rs image store g (puts bank location byte) = writeOf rs store g bank loc
 storeBy rs image store g keeps = store
 storeBy rs image store g breaks = store
 storeBy rs image store g powers = filledOf rs store image PowerOn
+
+-- the context after a frame with this meaning
+abbrev heardBy : List Record → Context → Bool → Meaning → Context
+heardBy rs k pair m =
+    record {
+      who = whoOf k pair m;
+      registers = registersOf rs k m;
+      enabled = enabledBy (k .enabled) (deedOf rs k pair m);
+    }
 
 -- a pair command that ends no pair waits; nothing else does
 abbrev waitingBy : Heard → Bool → Meaning → Waiting
@@ -97,7 +106,7 @@ module _ (rs : List Record) (image store : List ℕ) (s : State) (x : Heard) whe
   abbrev Moves : Bool → Meaning → Type 0
   Moves p m =
       view (roomsOf (frameOf rs store image s x))
-      ≡ viewBy rs image store (s .door .staged) (heardIn rs (contextIn s) p m) (waitingBy x p m)
+      ≡ viewBy rs image store (s .door .staged) (heardBy rs (contextIn s) p m) (waitingBy x p m)
       (deedOf rs (contextIn s) p m)
 
   -- a write executes or not
@@ -116,7 +125,7 @@ module _ (rs : List Record) (image store : List ℕ) (s : State) (x : Heard) whe
   write-moves location byte w false b = ap view (no-write-leaves rs store image s x location byte w b)
 
   once-moves : (p : Bool) (c : Once) → meaningOf (s .who) (x .frame) ≡ AtOnce c → Moves p (AtOnce c)
-  unfolding heardIn registersOf onceRegisters raisedFrom whoOf deedOf deedBy onceDeed writeDeed executes enabledBy
+  unfolding registersOf onceRegisters raisedFrom whoOf deedOf deedBy onceDeed writeDeed executes enabledBy
       keeping stagedBy storeBy
   once-moves p QueryMissingShortAddress e = ap view (missing-leaves rs store image s x e)
   once-moves p (QueryContentDtr k) e = ap view (content-leaves rs store image s x k e)
@@ -131,7 +140,7 @@ module _ (rs : List Record) (image store : List ℕ) (s : State) (x : Heard) whe
 
   pair-moves : (c : Twice) → completes (s .waiting) x ≡ true → meaningOf (s .who) (x .frame) ≡ NeedsPair c
       → Moves true (NeedsPair c)
-  unfolding heardIn registersOf pairWho whoOf deedOf deedBy pairDeed enabledBy keeping stagedBy storeBy
+  unfolding registersOf pairWho whoOf deedOf deedBy pairDeed enabledBy keeping stagedBy storeBy
   pair-moves ResetMemoryBank q e = ap view (reset-leaves rs store image s x q e)
   pair-moves SetShortAddress q e = ap view (short-leaves rs store image s x q e)
   pair-moves EnableWriteMemory q e = ap view (enable-leaves rs store image s x q e)
@@ -141,7 +150,7 @@ module _ (rs : List Record) (image store : List ℕ) (s : State) (x : Heard) whe
   -- a frame moves the rooms as the grammar says, if it ends a pair by the unit exactly if it does by the list
   moves : (m : Meaning) (p : Bool) → meaningOf (s .who) (x .frame) ≡ m
       → ((c : Twice) → m ≡ NeedsPair c → completes (s .waiting) x ≡ p) → Moves p m
-  unfolding heardIn registersOf whoOf deedOf deedBy enabledBy keeping stagedBy storeBy
+  unfolding registersOf whoOf deedOf deedBy enabledBy keeping stagedBy storeBy
   moves Foreign p e q = ap view (foreign-leaves rs store image s x e)
   moves NotObeyed p e q = ap view (not-obeyed-leaves rs store image s x e)
   moves (AtOnce c) p e q = once-moves p c e
@@ -256,30 +265,31 @@ module _ (start : Start) where
       let w : at (hears y ∷ h) .state .waiting ≡ waitingBy y (endsPair h y) m = ap (λ (r : Rooms). r .waiting) F
       ∙ ap (λ (u : View). u .waiting) M in
       let k : at (hears y ∷ h) .state .who ≡ whoOf (contextIn s) (endsPair h y) m =
-      ap (λ (r : Rooms). r .who) F ∙ ap (λ (u : View). u .context .who) M ∙ unfold heardIn in refl in
+      ap (λ (r : Rooms). r .who) F ∙ ap (λ (u : View). u .context .who) M in
       rw w (repeats y x (endsPair h y) (s .who) (at (hears y ∷ h) .state .who) c e m refl (contextIn s) (sym k) refl)
 
   -- a frame's move, by the unit's own rooms
   frame-moved : (x : Heard) (h : List Input) → Runs (hears x ∷ h)
-      → let s : State = at h .state in let m : Meaning = meaningOf (s .who) (x .frame) in
+      → let s : State = at h .state in
       view (roomsIn (at (hears x ∷ h)))
       ≡ viewBy records (start .image) (at h .store) (s .door .staged)
-      (heardIn records (contextIn s) (endsPair h x) m) (waitingBy x (endsPair h x) m)
-      (deedOf records (contextIn s) (endsPair h x) m)
+      (heardIn records (contextIn s) (endsPair h x) x) (waitingBy x (endsPair h x) (meant (contextIn s) x))
+      (deedIn records (contextIn s) (endsPair h x) x)
+  unfolding heardIn deedIn meant
   frame-moved x h A =
       ap view (frame-rooms x h A)
       ∙ moves records (start .image) (at h .store) (at h .state) x _ (endsPair h x) refl (λ c q. halves h (A .1) x c q)
 
   -- the unit's context is the grammar's
   pub agree : (h : List Input) → Runs h → contextIn (at h .state) ≡ context records (start .who) h
-  unfolding context poweredIn meant
+  unfolding context poweredIn
   agree [] A = ap contextOf (fresh-rooms (start .store) (start .who) (at []) (start-rooms A))
   agree (power-on ∷ h) A =
       ap contextOf (fresh-rooms (at h .store) (at h .state .who) (at (power-on ∷ h)) (power-rooms-at h A))
       ∙ ap (λ (k : Context). poweredIn (k .who)) (agree h (A .1))
   agree (hears x ∷ h) A =
       ap (λ (u : View). u .context) (frame-moved x h A)
-      ∙ ap (λ (k : Context). heardIn records k (endsPair h x) (meant k x)) (agree h (A .1))
+      ∙ ap (λ (k : Context). heardIn records k (endsPair h x) x) (agree h (A .1))
 
   -- what an input does to the staged bytes and to the store, by the grammar's reading of it
   pub record Done (x : Input) (h : List Input) : Type 0 where
@@ -289,15 +299,14 @@ module _ (start : Start) where
         (deedAfter records (start .who) h x)
 
   pub done-by : (x : Input) (h : List Input) → Runs (x ∷ h) → Done x h
-  unfolding deedAfter meant stagedBy storeBy
+  unfolding deedAfter stagedBy storeBy
   done-by power-on h A =
       let F = fresh-rooms (at h .store) (at h .state .who) (at (power-on ∷ h)) (power-rooms-at h A) in
       record { staged-is = ap (λ (r : Rooms). r .door .staged) F; store-is = ap (λ (r : Rooms). r .store) F }
   done-by (hears x) h A =
       let M = frame-moved x h A in
-      let d : deedOf records (contextIn (at h .state)) (endsPair h x) (meaningOf (at h .state .who) (x .frame))
-      ≡ deedAfter records (start .who) h (hears x) =
-      ap (λ (k : Context). deedOf records k (endsPair h x) (meant k x)) (agree h (A .1)) in
+      let d : deedIn records (contextIn (at h .state)) (endsPair h x) x ≡ deedAfter records (start .who) h (hears x) =
+      ap (λ (k : Context). deedIn records k (endsPair h x) x) (agree h (A .1)) in
       record {
         staged-is = ap (λ (u : View). u .staged) M
             ∙ ap (stagedBy records (at h .store) (at h .state .door .staged)) d;

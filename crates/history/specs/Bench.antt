@@ -10,6 +10,7 @@ use Rattle.unit.specs.Bench.{benchMap, benchStore, benchImage, benchWho, at, en
 use Rattle.history.specs.Machine.{Start}
 use Rattle.history.specs.Writing.{past, WritingAt}
 
+-- the sheet's start
 abbrev pub bench : Start
 bench = record { map = benchMap; store = benchStore; image = benchImage; who = benchWho }
 
