@@ -35,7 +35,7 @@ use Rattle.rooms.specs.State.{zeroRegisters, shutDoor}
 use Rattle.rooms.specs.declared.reply.Stepped.{Stepped}
 use Rattle.rooms.specs.declared.state.State.{State}
 use Rattle.unit.specs.Run.{Input, power-on, hears}
-use Rattle.unit.specs.Step.{frameOf, powerOf}
+use Rattle.unit.specs.Step.{frameOf}
 use Rattle.unit.proofs.ForHistory.{Ready, step-accepted, power-accepted, start-accepted, content-leaves, groups-leaves}
 use Rattle.unit.proofs.ForHistory.{Rooms, roomsOf, power-rooms, foreign-leaves, not-obeyed-leaves, missing-leaves}
 use Rattle.unit.proofs.ForHistory.{dtr-leaves, dtrs-leaves, read-leaves, WritesAt, at-dtr0, at-offset, write-leaves}
@@ -222,26 +222,28 @@ module _ (start : Start) where
       (step-accepted (start .map) (at h .store) (start .image) (at h .state) x (A .0) .1)
 
   -- start and power-on
-  fresh-rooms : (s : List ℕ) (w : Who) (l : Left State) → roomsIn l ≡ roomsOf (powerOf records s (start .image) w)
-      → roomsIn l ≡ record {
-        who = w;
+  abbrev freshRooms : List ℕ → Who → Rooms
+  freshRooms store who =
+      record {
+        who = who;
         registers = zeroRegisters;
         waiting = noneWaits;
         door = shutDoor;
-        store = filledOf records s (start .image) PowerOn;
+        store = filledOf records store (start .image) PowerOn;
       }
-  fresh-rooms s w l e = e ∙ power-rooms records s (start .image) w
 
-  start-rooms : Runs [] → roomsIn (at []) ≡ roomsOf (powerOf records (start .store) (start .image) (start .who))
+  start-rooms : Runs [] → roomsIn (at []) ≡ freshRooms (start .store) (start .who)
   unfolding unitMachine
   start-rooms A = ap (λ (o : Outcome Stepped). roomsOf o)
       (start-accepted (start .map) (start .store) (start .image) (start .who) A .1)
+      ∙ power-rooms records (start .store) (start .image) (start .who)
 
   power-rooms-at : (h : List Input) → Runs (power-on ∷ h)
-      → roomsIn (at (power-on ∷ h)) ≡ roomsOf (powerOf records (at h .store) (start .image) (at h .state .who))
+      → roomsIn (at (power-on ∷ h)) ≡ freshRooms (at h .store) (at h .state .who)
   unfolding unitMachine
   power-rooms-at h A = ap (λ (o : Outcome Stepped). roomsOf o)
       (power-accepted (start .map) (at h .store) (start .image) (at h .state) (A .0) .1)
+      ∙ power-rooms records (at h .store) (start .image) (at h .state .who)
 
   -- a pair command for the unit makes a pair with the waiting frame exactly if it ends a pair of the list
   pub halves : (h : List Input) → Runs h → (x : Heard) (c : Twice)
@@ -249,13 +251,11 @@ module _ (start : Start) where
       → completes (at h .state .waiting) x ≡ endsPair h x
   unfolding endsPair
   halves [] A x c e =
-      let w : at [] .state .waiting ≡ noneWaits = ap (λ (r : Rooms). r .waiting)
-      (fresh-rooms (start .store) (start .who) (at []) (start-rooms A)) in
+      let w : at [] .state .waiting ≡ noneWaits = ap (λ (r : Rooms). r .waiting) (start-rooms A) in
       rw w (none-completes x)
   halves (power-on ∷ h) A x c e =
       let w : at (power-on ∷ h) .state .waiting ≡ noneWaits =
-      ap (λ (r : Rooms). r .waiting) (fresh-rooms (at h .store) (at h .state .who) (at (power-on ∷ h))
-      (power-rooms-at h A)) in
+      ap (λ (r : Rooms). r .waiting) (power-rooms-at h A) in
       rw w (none-completes x)
   halves (hears y ∷ h) A x c e =
       let s : State = at h .state in
@@ -283,10 +283,9 @@ module _ (start : Start) where
   -- the unit's context is the grammar's
   pub agree : (h : List Input) → Runs h → contextIn (at h .state) ≡ context records (start .who) h
   unfolding context poweredIn
-  agree [] A = ap contextOf (fresh-rooms (start .store) (start .who) (at []) (start-rooms A))
+  agree [] A = ap contextOf (start-rooms A)
   agree (power-on ∷ h) A =
-      ap contextOf (fresh-rooms (at h .store) (at h .state .who) (at (power-on ∷ h)) (power-rooms-at h A))
-      ∙ ap (λ (k : Context). poweredIn (k .who)) (agree h (A .1))
+      ap contextOf (power-rooms-at h A) ∙ ap (λ (k : Context). poweredIn (k .who)) (agree h (A .1))
   agree (hears x ∷ h) A =
       ap (λ (u : View). u .context) (frame-moved x h A)
       ∙ ap (λ (k : Context). heardIn records k (endsPair h x) x) (agree h (A .1))
@@ -301,7 +300,7 @@ module _ (start : Start) where
   pub done-by : (x : Input) (h : List Input) → Runs (x ∷ h) → Done x h
   unfolding deedAfter stagedBy storeBy
   done-by power-on h A =
-      let F = fresh-rooms (at h .store) (at h .state .who) (at (power-on ∷ h)) (power-rooms-at h A) in
+      let F = power-rooms-at h A in
       record { staged-is = ap (λ (r : Rooms). r .door .staged) F; store-is = ap (λ (r : Rooms). r .store) F }
   done-by (hears x) h A =
       let M = frame-moved x h A in
@@ -316,10 +315,10 @@ module _ (start : Start) where
 
   -- the start leaves nothing staged, and the store filled
   pub start-staged : Runs [] → at [] .state .door .staged ≡ noneStaged
-  start-staged A = ap (λ (r : Rooms). r .door .staged) (fresh-rooms (start .store) (start .who) (at []) (start-rooms A))
+  start-staged A = ap (λ (r : Rooms). r .door .staged) (start-rooms A)
 
   pub start-store : Runs [] → at [] .store ≡ filledOf records (start .store) (start .image) PowerOn
-  start-store A = ap (λ (r : Rooms). r .store) (fresh-rooms (start .store) (start .who) (at []) (start-rooms A))
+  start-store A = ap (λ (r : Rooms). r .store) (start-rooms A)
 
   -- what an accepted input was handed
   pub ready : (x : Input) (h : List Input) → Runs (x ∷ h)
