@@ -2,20 +2,21 @@
 -- Assumes nothing.
 use mathlib.Core.Path.{_≡_, refl}
 use mathlib.Core.Bool.{true, false}
-use lib.Dec.{leb, eqb}
+use Prim.Native.Nat.{ℕ}
+use lib.Dec.{eqb}
 use borrow.Author.Tests.{eqb-true}
 use Rattle.laws.proofs.Tests.{both}
-use Rattle.hearing.specs.Pairs.{passed, inTime, completes, noneWaits, waitsFor}
+use Rattle.hearing.specs.Pairs.{inTime, completes, noneWaits, waitsFor}
 use Rattle.hearing.specs.declared.rooms.Heard.{Heard}
 
 pub none-completes : (x : Heard) → completes noneWaits x ≡ false
 unfolding completes
 none-completes x = refl
 
-pub one-completes : (y x : Heard) → completes (waitsFor y) x ≡ inTime y x
+pub one-completes : (y x : Heard) → completes (waitsFor y) x ≡ inTime (y .frame) (y .clock) (x .frame) (x .clock)
 unfolding completes
 one-completes y x = refl
 
-pub in-time-equal : (y x : Heard) → inTime y x ≡ true → y .frame ≡ x .frame
+pub in-time-equal : (frame clock again later : ℕ) → inTime frame clock again later ≡ true → frame ≡ again
 unfolding inTime
-in-time-equal y x e = eqb-true _ _ (both (eqb (y .frame) (x .frame)) (leb (passed (y .clock) (x .clock)) 100) e .0)
+in-time-equal frame clock again later e = eqb-true frame again (both (eqb frame again) _ e .0)

@@ -14,13 +14,14 @@ heardAt clock frame = record { clock = clock; frame = frame }
 unfoldable pub passed : (first second : ℕ) → ℕ
 passed first second = (second + 2 ^ 32 - first) % 2 ^ 32
 
--- two frames are a pair if equal and second minus first is at most 100
-unfoldable pub inTime : (first second : Heard) → Bool
-inTime first second = eqb (first .frame) (second .frame) && leb (passed (first .clock) (second .clock)) 100
+-- two frames, each with its clock, are a pair if equal and second minus first, modulo 4,294,967,296, is at most 100
+unfoldable pub inTime : (frame clock again later : ℕ) → Bool
+inTime frame clock again later = eqb frame again && leb (passed clock later) 100
 
 -- the frame that waits was heard in direct succession
 unfoldable pub completes : Waiting → Heard → Bool
-completes waiting heard = waiting .held && inTime (record { clock = waiting .clock; frame = waiting .frame }) heard
+completes waiting heard =
+    waiting .held && inTime (waiting .frame) (waiting .clock) (heard .frame) (heard .clock)
 
 -- none waits, and whatever is not in use is zero
 abbrev pub noneWaits : Waiting

@@ -9,6 +9,7 @@ use Rattle.laws.specs.Bits.{bit}
 use Rattle.laws.specs.Choice.{if_then_else_}
 use Rattle.frames.specs.Read.{readOf}
 use Rattle.frames.specs.declared.message.Address.{Address}
+use Rattle.frames.specs.declared.message.Message.{Message}
 use Rattle.frames.specs.declared.message.Reading.{Reading}
 use Rattle.hearing.specs.Codes.{Code, device, special, codeOf, Stands}
 use Rattle.hearing.specs.Meaning.{Row, isFor, deviceRows, firstRows, otherRows, meaningOf, closes}
@@ -35,6 +36,12 @@ EventForeign = (who : Who) (f : ℕ) → bit f 16 ≡ 0 → meaningOf who f ≡ 
 
 abbrev pub ReservedForeign : Type 0
 ReservedForeign = (who : Who) (f number : ℕ) → readOf f ≡ Reading.Refused number → meaningOf who f ≡ Meaning.Foreign
+
+-- a special frame is for every unit: what it means does not depend on who hears it
+abbrev pub SpecialForAll : Type 0
+SpecialForAll =
+    (who other : Who) (f number first second : ℕ) → readOf f ≡ Reading.Got (Message.Special number first second) →
+    meaningOf who f ≡ meaningOf other f
 
 -- what is foreign or not obeyed closes nothing
 abbrev pub ClosesNothing : Type 0
