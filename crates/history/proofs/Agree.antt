@@ -31,7 +31,7 @@ use Rattle.hearing.specs.declared.meaning.Twice.the-variants.{AddToDeviceGroups
 use Rattle.hearing.specs.declared.meaning.Meaning.{Meaning}
 use Rattle.hearing.specs.declared.meaning.Meaning.the-variants.{Foreign, NotObeyed, AtOnce, NeedsPair}
 use Rattle.hearing.proofs.ForHistory.{none-completes, one-completes, in-time-equal}
-use Rattle.rooms.specs.State.{zeroRegisters, shutDoor}
+use Rattle.rooms.specs.State.{withWho, zeroRegisters, shutDoor, zeroState}
 use Rattle.rooms.specs.declared.reply.Stepped.{Stepped}
 use Rattle.rooms.specs.declared.state.State.{State}
 use Rattle.unit.specs.Run.{Input, power-on, hears}
@@ -168,18 +168,24 @@ and-yes true = refl
 and-yes false = refl
 
 module _ (y x : Heard) (p : Bool) (before now : Who) (c : Twice) (is : meaningOf now (x .frame) ≡ NeedsPair c) where
+  -- x repeats y in time
+  abbrev again : Bool
+  again = inTime (y .frame) (y .clock) (x .frame) (x .clock)
+
   -- where y is no pair command and left address and groups, x does not repeat it
   no-repeat : (m : Meaning) → meaningOf before (y .frame) ≡ m → before ≡ now → (m ≡ NeedsPair c → ⊥)
-      → inTime y x ≡ false
-  no-repeat m e w no′ = go (inTime y x) refl
+      → again ≡ false
+  no-repeat m e w no′ = go again refl
     where
-      go : (b : Bool) → inTime y x ≡ b → b ≡ false
-      go true b = absurd (no′ (sym e ∙ ap (λ (n : ℕ). meaningOf before n) (in-time-equal y x b) ∙ rw w is))
+      go : (b : Bool) → again ≡ b → b ≡ false
+      go true b =
+          let f : y .frame ≡ x .frame = in-time-equal (y .frame) (y .clock) (x .frame) (x .clock) b in
+          absurd (no′ (sym e ∙ ap (λ (n : ℕ). meaningOf before n) f ∙ rw w is))
       go false b = refl
 
   -- after y, the frame that waits makes a pair with x exactly if y ends no pair and x repeats it in time
   repeats : (m : Meaning) → meaningOf before (y .frame) ≡ m → (k : Context) → whoOf k p m ≡ now → k .who ≡ before
-      → completes (waitingBy y p m) x ≡ (inTime y x && not p)
+      → completes (waitingBy y p m) x ≡ (again && not p)
   unfolding whoOf
   repeats Foreign e k w b =
       rw (none-completes x, no-repeat Foreign e (sym b ∙ w) (λ z. let q : _≡_ {A = ℕ} 0 1 = cc in omega arith))
@@ -189,9 +195,9 @@ module _ (y x : Heard) (p : Bool) (before now : Who) (c : Twice) (is : meaningOf
       rw (none-completes x, no-repeat (AtOnce d) e (sym b ∙ w) (λ z. let q : _≡_ {A = ℕ} 0 1 = cc in omega arith))
   repeats (NeedsPair d) e k w b = go p
     where
-      go : (b : Bool) → completes (if b then noneWaits else waitsFor y) x ≡ (inTime y x && not b)
-      go true = rw (none-completes x, and-no (inTime y x))
-      go false = rw (one-completes y x, and-yes (inTime y x))
+      go : (b : Bool) → completes (if b then noneWaits else waitsFor y) x ≡ (again && not b)
+      go true = rw (none-completes x, and-no again)
+      go false = rw (one-completes y x, and-yes again)
 
 -- ---- over a history of accepted calls
 
@@ -233,17 +239,17 @@ module _ (start : Start) where
       }
 
   start-rooms : Runs [] → roomsIn (at []) ≡ freshRooms (start .store) (start .who)
-  unfolding unitMachine
+  unfolding unitMachine withWho
   start-rooms A = ap (λ (o : Outcome Stepped). roomsOf o)
       (start-accepted (start .map) (start .store) (start .image) (start .who) A .1)
-      ∙ power-rooms records (start .store) (start .image) (start .who)
+      ∙ power-rooms records (start .store) (start .image) (withWho zeroState (start .who)) (start .who) refl
 
   power-rooms-at : (h : List Input) → Runs (power-on ∷ h)
       → roomsIn (at (power-on ∷ h)) ≡ freshRooms (at h .store) (at h .state .who)
   unfolding unitMachine
   power-rooms-at h A = ap (λ (o : Outcome Stepped). roomsOf o)
       (power-accepted (start .map) (at h .store) (start .image) (at h .state) (A .0) .1)
-      ∙ power-rooms records (at h .store) (start .image) (at h .state .who)
+      ∙ power-rooms records (at h .store) (start .image) (at h .state) (at h .state .who) refl
 
   -- a pair command for the unit makes a pair with the waiting frame exactly if it ends a pair of the list
   pub halves : (h : List Input) → Runs h → (x : Heard) (c : Twice)

@@ -81,8 +81,8 @@ record Read : Type 0 where
 
 reads : Read
 unfolding never ripe ripeBy okFor taking unfinished lock lockBy deedAfter context meant deedIn poweredIn heardIn
-    whoOf pairWho registersOf onceRegisters raisedFrom enabledBy keeping deedOf deedBy pairDeed onceDeed writeDeed executes
-    endsPair inTime passed withDtr meaningOf specialCommand firstSpecial deviceCommand targetAt read.addressOf
+    whoOf pairWho registersOf onceRegisters raisedFrom enabledBy keeping deedOf deedBy pairDeed onceDeed writeDeed
+    executes endsPair inTime passed withDtr meaningOf specialCommand firstSpecial deviceCommand targetAt read.addressOf
     read.targetOf read.commandOf read.readOf kindOf recordsOf recordAt bits
 reads = record { of-p11 = refl; of-p12 = refl }
 

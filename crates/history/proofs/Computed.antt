@@ -20,7 +20,7 @@ use Rattle.hearing.specs.Meaning.{deviceCommand, firstSpecial, specialCommand, 
 use Rattle.hearing.specs.Pairs.{passed, inTime, completes}
 use Rattle.rooms.specs.Due.{dtrOf, withDtr, shortDue, writeDue, onceDue, pairDue, dueBy, dueOf}
 use Rattle.rooms.specs.Rules.{waitingHolds, doorHolds, stateHolds}
-use Rattle.rooms.specs.State.{withWho, withRegisters, withWaiting, withDoor, withLatch, poweredOn}
+use Rattle.rooms.specs.State.{withWho, withRegisters, withWaiting, withDoor, withLatch, poweredOn, zeroState}
 use Rattle.rooms.specs.Reply.{quiet, answering, refusing}
 use Rattle.numbers.specs.Numbers.{stepNumber, startNumber}
 use Rattle.unit.specs.Run.{Input}
@@ -45,13 +45,13 @@ pub record Runs : Type 0 where
 
 pub runs : Runs
 unfolding unitMachine eachByte firstOnly neverStores stepOf startOf stepNumber startNumber frameOf powerOf done
-    written raised hearing refusing answering quiet poweredOn withLatch withDoor withWaiting withRegisters withWho
-    stateHolds doorHolds waitingHolds dueOf dueBy pairDue onceDue writeDue shortDue withDtr dtrOf completes inTime
-    passed meaningOf specialCommand firstSpecial deviceCommand writeOf writeAt writeFound takeByte bytesWith taken
-    unlocked latchHolds latchedIn zeroFrom stagedHolds stagedIn filledOf fresh chosen selects headBytesHold headHolds
-    headByteHolds banksHold bankHolds placesHold lengthsHold sizeHolds recordsOf recordAt lockByte byteAt putValue
-    valueOf beginner ifFirst holder targetAt read.addressOf read.targetOf read.commandOf read.readOf kindOf put part
-    firstFailing bits
+    written raised hearing refusing answering quiet poweredOn zeroState withLatch withDoor withWaiting withRegisters
+    withWho stateHolds doorHolds waitingHolds dueOf dueBy pairDue onceDue writeDue shortDue withDtr dtrOf completes
+    inTime passed meaningOf specialCommand firstSpecial deviceCommand writeOf writeAt writeFound takeByte bytesWith
+    taken unlocked latchHolds latchedIn zeroFrom stagedHolds stagedIn filledOf fresh chosen selects headBytesHold
+    headHolds headByteHolds banksHold bankHolds placesHold lengthsHold sizeHolds recordsOf recordAt lockByte byteAt
+    putValue valueOf beginner ifFirst holder targetAt read.addressOf read.targetOf read.commandOf read.readOf kindOf
+    put part firstFailing bits
 runs = record {
   ours-p12 = ((refl, (refl, (refl, (refl, (refl, (refl, (refl, (refl, refl)))))))), refl);
   each-byte-p12 = ((refl, (refl, (refl, (refl, (refl, (refl, (refl, (refl, refl)))))))), refl);
