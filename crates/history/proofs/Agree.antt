@@ -31,22 +31,22 @@ use Rattle.hearing.specs.declared.meaning.Twice.the-variants.{AddToDeviceGroups
 use Rattle.hearing.specs.declared.meaning.Meaning.{Meaning}
 use Rattle.hearing.specs.declared.meaning.Meaning.the-variants.{Foreign, NotObeyed, AtOnce, NeedsPair}
 use Rattle.hearing.proofs.ForHistory.{none-completes, one-completes, in-time-equal}
-use Rattle.rooms.specs.State.{zeroRegisters, shutDoor}
+use Rattle.rooms.specs.State.{withWho, zeroRegisters, shutDoor, zeroState}
 use Rattle.rooms.specs.declared.reply.Stepped.{Stepped}
 use Rattle.rooms.specs.declared.state.State.{State}
 use Rattle.unit.specs.Run.{Input, power-on, hears}
-use Rattle.unit.specs.Step.{frameOf, powerOf}
+use Rattle.unit.specs.Step.{frameOf}
 use Rattle.unit.proofs.ForHistory.{Ready, step-accepted, power-accepted, start-accepted, content-leaves, groups-leaves}
 use Rattle.unit.proofs.ForHistory.{Rooms, roomsOf, power-rooms, foreign-leaves, not-obeyed-leaves, missing-leaves}
 use Rattle.unit.proofs.ForHistory.{dtr-leaves, dtrs-leaves, read-leaves, WritesAt, at-dtr0, at-offset, write-leaves}
 use Rattle.unit.proofs.ForHistory.{no-write-leaves}
 use Rattle.unit.proofs.ForHistory.{reset-leaves, enable-leaves, short-leaves, add-leaves, remove-leaves, half-leaves}
-use Rattle.history.specs.Machine.{Left, after, Accepted, unitMachine}
+use Rattle.history.specs.Machine.{Left, Start, after, Accepted, unitMachine}
 use Rattle.history.specs.Pairs.{endsPair}
 use Rattle.history.specs.Deeds.{Context, Deed, opens, resets, puts, keeps, breaks, powers, executes, writeDeed}
 use Rattle.history.specs.Deeds.{onceDeed, pairDeed, deedBy, deedOf, keeping, enabledBy}
-use Rattle.history.specs.Context.{raisedFrom, onceRegisters, registersOf, pairWho, whoOf, meant, heardIn}
-use Rattle.history.specs.Context.{poweredIn, context, deedAfter}
+use Rattle.history.specs.Context.{raisedFrom, onceRegisters, registersOf, pairWho, whoOf, meant, deedIn}
+use Rattle.history.specs.Context.{heardIn, poweredIn, context, deedAfter}
 
 -- the unit's rooms, as a context
 abbrev pub contextIn : State → Context
@@ -71,6 +71,15 @@ storeBy rs image store g (puts bank location byte) = writeOf rs store g bank loc
 storeBy rs image store g keeps = store
 storeBy rs image store g breaks = store
 storeBy rs image store g powers = filledOf rs store image PowerOn
+
+-- the context after a frame with this meaning
+abbrev heardBy : List Record → Context → Bool → Meaning → Context
+heardBy rs k pair m =
+    record {
+      who = whoOf k pair m;
+      registers = registersOf rs k m;
+      enabled = enabledBy (k .enabled) (deedOf rs k pair m);
+    }
 
 -- a pair command that ends no pair waits; nothing else does
 abbrev waitingBy : Heard → Bool → Meaning → Waiting
@@ -97,7 +106,7 @@ module _ (rs : List Record) (image store : List ℕ) (s : State) (x : Heard) whe
   abbrev Moves : Bool → Meaning → Type 0
   Moves p m =
       view (roomsOf (frameOf rs store image s x))
-      ≡ viewBy rs image store (s .door .staged) (heardIn rs (contextIn s) p m) (waitingBy x p m)
+      ≡ viewBy rs image store (s .door .staged) (heardBy rs (contextIn s) p m) (waitingBy x p m)
       (deedOf rs (contextIn s) p m)
 
   -- a write executes or not
@@ -116,7 +125,7 @@ module _ (rs : List Record) (image store : List ℕ) (s : State) (x : Heard) whe
   write-moves location byte w false b = ap view (no-write-leaves rs store image s x location byte w b)
 
   once-moves : (p : Bool) (c : Once) → meaningOf (s .who) (x .frame) ≡ AtOnce c → Moves p (AtOnce c)
-  unfolding heardIn registersOf onceRegisters raisedFrom whoOf deedOf deedBy onceDeed writeDeed executes enabledBy
+  unfolding registersOf onceRegisters raisedFrom whoOf deedOf deedBy onceDeed writeDeed executes enabledBy
       keeping stagedBy storeBy
   once-moves p QueryMissingShortAddress e = ap view (missing-leaves rs store image s x e)
   once-moves p (QueryContentDtr k) e = ap view (content-leaves rs store image s x k e)
@@ -131,7 +140,7 @@ module _ (rs : List Record) (image store : List ℕ) (s : State) (x : Heard) whe
 
   pair-moves : (c : Twice) → completes (s .waiting) x ≡ true → meaningOf (s .who) (x .frame) ≡ NeedsPair c
       → Moves true (NeedsPair c)
-  unfolding heardIn registersOf pairWho whoOf deedOf deedBy pairDeed enabledBy keeping stagedBy storeBy
+  unfolding registersOf pairWho whoOf deedOf deedBy pairDeed enabledBy keeping stagedBy storeBy
   pair-moves ResetMemoryBank q e = ap view (reset-leaves rs store image s x q e)
   pair-moves SetShortAddress q e = ap view (short-leaves rs store image s x q e)
   pair-moves EnableWriteMemory q e = ap view (enable-leaves rs store image s x q e)
@@ -141,7 +150,7 @@ module _ (rs : List Record) (image store : List ℕ) (s : State) (x : Heard) whe
   -- a frame moves the rooms as the grammar says, if it ends a pair by the unit exactly if it does by the list
   moves : (m : Meaning) (p : Bool) → meaningOf (s .who) (x .frame) ≡ m
       → ((c : Twice) → m ≡ NeedsPair c → completes (s .waiting) x ≡ p) → Moves p m
-  unfolding heardIn registersOf whoOf deedOf deedBy enabledBy keeping stagedBy storeBy
+  unfolding registersOf whoOf deedOf deedBy enabledBy keeping stagedBy storeBy
   moves Foreign p e q = ap view (foreign-leaves rs store image s x e)
   moves NotObeyed p e q = ap view (not-obeyed-leaves rs store image s x e)
   moves (AtOnce c) p e q = once-moves p c e
@@ -159,18 +168,24 @@ and-yes true = refl
 and-yes false = refl
 
 module _ (y x : Heard) (p : Bool) (before now : Who) (c : Twice) (is : meaningOf now (x .frame) ≡ NeedsPair c) where
+  -- x repeats y in time
+  abbrev again : Bool
+  again = inTime (y .frame) (y .clock) (x .frame) (x .clock)
+
   -- where y is no pair command and left address and groups, x does not repeat it
   no-repeat : (m : Meaning) → meaningOf before (y .frame) ≡ m → before ≡ now → (m ≡ NeedsPair c → ⊥)
-      → inTime y x ≡ false
-  no-repeat m e w no′ = go (inTime y x) refl
+      → again ≡ false
+  no-repeat m e w no′ = go again refl
     where
-      go : (b : Bool) → inTime y x ≡ b → b ≡ false
-      go true b = absurd (no′ (sym e ∙ ap (λ (n : ℕ). meaningOf before n) (in-time-equal y x b) ∙ rw w is))
+      go : (b : Bool) → again ≡ b → b ≡ false
+      go true b =
+          let f : y .frame ≡ x .frame = in-time-equal (y .frame) (y .clock) (x .frame) (x .clock) b in
+          absurd (no′ (sym e ∙ ap (λ (n : ℕ). meaningOf before n) f ∙ rw w is))
       go false b = refl
 
   -- after y, the frame that waits makes a pair with x exactly if y ends no pair and x repeats it in time
   repeats : (m : Meaning) → meaningOf before (y .frame) ≡ m → (k : Context) → whoOf k p m ≡ now → k .who ≡ before
-      → completes (waitingBy y p m) x ≡ (inTime y x && not p)
+      → completes (waitingBy y p m) x ≡ (again && not p)
   unfolding whoOf
   repeats Foreign e k w b =
       rw (none-completes x, no-repeat Foreign e (sym b ∙ w) (λ z. let q : _≡_ {A = ℕ} 0 1 = cc in omega arith))
@@ -180,9 +195,9 @@ module _ (y x : Heard) (p : Bool) (before now : Who) (c : Twice) (is : meaningOf
       rw (none-completes x, no-repeat (AtOnce d) e (sym b ∙ w) (λ z. let q : _≡_ {A = ℕ} 0 1 = cc in omega arith))
   repeats (NeedsPair d) e k w b = go p
     where
-      go : (b : Bool) → completes (if b then noneWaits else waitsFor y) x ≡ (inTime y x && not b)
-      go true = rw (none-completes x, and-no (inTime y x))
-      go false = rw (one-completes y x, and-yes (inTime y x))
+      go : (b : Bool) → completes (if b then noneWaits else waitsFor y) x ≡ (again && not b)
+      go true = rw (none-completes x, and-no again)
+      go false = rw (one-completes y x, and-yes again)
 
 -- ---- over a history of accepted calls
 
@@ -196,40 +211,45 @@ roomsIn l =
       store = l .store;
     }
 
-module _ (map store image : List ℕ) (who : Who) where
+module _ (start : Start) where
+  abbrev pub records : List Record
+  records = recordsOf (start .map)
+
   abbrev pub Runs : List Input → Type 0
-  Runs h = Accepted unitMachine map store image who h
+  Runs h = Accepted unitMachine start h
 
   abbrev pub at : List Input → Left State
-  at h = after unitMachine map store image who h
+  at h = after unitMachine start h
 
   frame-rooms : (x : Heard) (h : List Input) → Runs (hears x ∷ h)
-      → roomsIn (at (hears x ∷ h)) ≡ roomsOf (frameOf (recordsOf map) (at h .store) image (at h .state) x)
+      → roomsIn (at (hears x ∷ h)) ≡ roomsOf (frameOf records (at h .store) (start .image) (at h .state) x)
   unfolding unitMachine
   frame-rooms x h A = ap (λ (o : Outcome Stepped). roomsOf o)
-      (step-accepted map (at h .store) image (at h .state) x (A .0) .1)
+      (step-accepted (start .map) (at h .store) (start .image) (at h .state) x (A .0) .1)
 
   -- start and power-on
-  fresh-rooms : (s : List ℕ) (w : Who) (l : Left State) → roomsIn l ≡ roomsOf (powerOf (recordsOf map) s image w)
-      → roomsIn l ≡ record {
-        who = w;
+  abbrev freshRooms : List ℕ → Who → Rooms
+  freshRooms store who =
+      record {
+        who = who;
         registers = zeroRegisters;
         waiting = noneWaits;
         door = shutDoor;
-        store =
-            filledOf (recordsOf map) s image PowerOn;
+        store = filledOf records store (start .image) PowerOn;
       }
-  fresh-rooms s w l e = e ∙ power-rooms (recordsOf map) s image w
 
-  start-rooms : Runs [] → roomsIn (at []) ≡ roomsOf (powerOf (recordsOf map) store image who)
-  unfolding unitMachine
-  start-rooms A = ap (λ (o : Outcome Stepped). roomsOf o) (start-accepted map store image who A .1)
+  start-rooms : Runs [] → roomsIn (at []) ≡ freshRooms (start .store) (start .who)
+  unfolding unitMachine withWho
+  start-rooms A = ap (λ (o : Outcome Stepped). roomsOf o)
+      (start-accepted (start .map) (start .store) (start .image) (start .who) A .1)
+      ∙ power-rooms records (start .store) (start .image) (withWho zeroState (start .who)) (start .who) refl
 
   power-rooms-at : (h : List Input) → Runs (power-on ∷ h)
-      → roomsIn (at (power-on ∷ h)) ≡ roomsOf (powerOf (recordsOf map) (at h .store) image (at h .state .who))
+      → roomsIn (at (power-on ∷ h)) ≡ freshRooms (at h .store) (at h .state .who)
   unfolding unitMachine
   power-rooms-at h A = ap (λ (o : Outcome Stepped). roomsOf o)
-      (power-accepted map (at h .store) image (at h .state) (A .0) .1)
+      (power-accepted (start .map) (at h .store) (start .image) (at h .state) (A .0) .1)
+      ∙ power-rooms records (at h .store) (start .image) (at h .state) (at h .state .who) refl
 
   -- a pair command for the unit makes a pair with the waiting frame exactly if it ends a pair of the list
   pub halves : (h : List Input) → Runs h → (x : Heard) (c : Twice)
@@ -237,85 +257,83 @@ module _ (map store image : List ℕ) (who : Who) where
       → completes (at h .state .waiting) x ≡ endsPair h x
   unfolding endsPair
   halves [] A x c e =
-      let w : at [] .state .waiting ≡ noneWaits = ap (λ (r : Rooms). r .waiting)
-      (fresh-rooms store who (at []) (start-rooms A)) in
+      let w : at [] .state .waiting ≡ noneWaits = ap (λ (r : Rooms). r .waiting) (start-rooms A) in
       rw w (none-completes x)
   halves (power-on ∷ h) A x c e =
       let w : at (power-on ∷ h) .state .waiting ≡ noneWaits =
-      ap (λ (r : Rooms). r .waiting) (fresh-rooms (at h .store) (at h .state .who) (at (power-on ∷ h))
-      (power-rooms-at h A)) in
+      ap (λ (r : Rooms). r .waiting) (power-rooms-at h A) in
       rw w (none-completes x)
   halves (hears y ∷ h) A x c e =
       let s : State = at h .state in
       let m : Meaning = meaningOf (s .who) (y .frame) in
-      let M = moves (recordsOf map) image (at h .store) s y m (endsPair h y) refl (λ d q. halves h (A .1) y d q) in
+      let M = moves records (start .image) (at h .store) s y m (endsPair h y) refl (λ d q. halves h (A .1) y d q) in
       let F = frame-rooms y h A in
       let w : at (hears y ∷ h) .state .waiting ≡ waitingBy y (endsPair h y) m = ap (λ (r : Rooms). r .waiting) F
       ∙ ap (λ (u : View). u .waiting) M in
       let k : at (hears y ∷ h) .state .who ≡ whoOf (contextIn s) (endsPair h y) m =
-      ap (λ (r : Rooms). r .who) F ∙ ap (λ (u : View). u .context .who) M ∙ unfold heardIn in refl in
+      ap (λ (r : Rooms). r .who) F ∙ ap (λ (u : View). u .context .who) M in
       rw w (repeats y x (endsPair h y) (s .who) (at (hears y ∷ h) .state .who) c e m refl (contextIn s) (sym k) refl)
 
   -- a frame's move, by the unit's own rooms
   frame-moved : (x : Heard) (h : List Input) → Runs (hears x ∷ h)
-      → let s : State = at h .state in let m : Meaning = meaningOf (s .who) (x .frame) in
+      → let s : State = at h .state in
       view (roomsIn (at (hears x ∷ h)))
-      ≡ viewBy (recordsOf map) image (at h .store) (s .door .staged)
-      (heardIn (recordsOf map) (contextIn s) (endsPair h x) m) (waitingBy x (endsPair h x) m)
-      (deedOf (recordsOf map) (contextIn s) (endsPair h x) m)
+      ≡ viewBy records (start .image) (at h .store) (s .door .staged)
+      (heardIn records (contextIn s) (endsPair h x) x) (waitingBy x (endsPair h x) (meant (contextIn s) x))
+      (deedIn records (contextIn s) (endsPair h x) x)
+  unfolding heardIn deedIn meant
   frame-moved x h A =
       ap view (frame-rooms x h A)
-      ∙ moves (recordsOf map) image (at h .store) (at h .state) x _ (endsPair h x) refl (λ c q. halves h (A .1) x c q)
+      ∙ moves records (start .image) (at h .store) (at h .state) x _ (endsPair h x) refl (λ c q. halves h (A .1) x c q)
 
   -- the unit's context is the grammar's
-  pub agree : (h : List Input) → Runs h → contextIn (at h .state) ≡ context (recordsOf map) who h
-  unfolding context poweredIn meant
-  agree [] A = ap contextOf (fresh-rooms store who (at []) (start-rooms A))
+  pub agree : (h : List Input) → Runs h → contextIn (at h .state) ≡ context records (start .who) h
+  unfolding context poweredIn
+  agree [] A = ap contextOf (start-rooms A)
   agree (power-on ∷ h) A =
-      ap contextOf (fresh-rooms (at h .store) (at h .state .who) (at (power-on ∷ h)) (power-rooms-at h A))
-      ∙ ap (λ (k : Context). poweredIn (k .who)) (agree h (A .1))
+      ap contextOf (power-rooms-at h A) ∙ ap (λ (k : Context). poweredIn (k .who)) (agree h (A .1))
   agree (hears x ∷ h) A =
       ap (λ (u : View). u .context) (frame-moved x h A)
-      ∙ ap (λ (k : Context). heardIn (recordsOf map) k (endsPair h x) (meant k x)) (agree h (A .1))
+      ∙ ap (λ (k : Context). heardIn records k (endsPair h x) x) (agree h (A .1))
 
   -- what an input does to the staged bytes and to the store, by the grammar's reading of it
   pub record Done (x : Input) (h : List Input) : Type 0 where
     pub staged-is : at (x ∷ h) .state .door .staged
-        ≡ stagedBy (recordsOf map) (at h .store) (at h .state .door .staged) (deedAfter (recordsOf map) who h x)
-    pub store-is : at (x ∷ h) .store ≡ storeBy (recordsOf map) image (at h .store) (at h .state .door .staged)
-        (deedAfter (recordsOf map) who h x)
+        ≡ stagedBy records (at h .store) (at h .state .door .staged) (deedAfter records (start .who) h x)
+    pub store-is : at (x ∷ h) .store ≡ storeBy records (start .image) (at h .store) (at h .state .door .staged)
+        (deedAfter records (start .who) h x)
 
   pub done-by : (x : Input) (h : List Input) → Runs (x ∷ h) → Done x h
-  unfolding deedAfter meant stagedBy storeBy
+  unfolding deedAfter stagedBy storeBy
   done-by power-on h A =
-      let F = fresh-rooms (at h .store) (at h .state .who) (at (power-on ∷ h)) (power-rooms-at h A) in
+      let F = power-rooms-at h A in
       record { staged-is = ap (λ (r : Rooms). r .door .staged) F; store-is = ap (λ (r : Rooms). r .store) F }
   done-by (hears x) h A =
       let M = frame-moved x h A in
-      let d : deedOf (recordsOf map) (contextIn (at h .state)) (endsPair h x) (meaningOf (at h .state .who) (x .frame))
-      ≡ deedAfter (recordsOf map) who h (hears x) =
-      ap (λ (k : Context). deedOf (recordsOf map) k (endsPair h x) (meant k x)) (agree h (A .1)) in
+      let d : deedIn records (contextIn (at h .state)) (endsPair h x) x ≡ deedAfter records (start .who) h (hears x) =
+      ap (λ (k : Context). deedIn records k (endsPair h x) x) (agree h (A .1)) in
       record {
         staged-is = ap (λ (u : View). u .staged) M
-            ∙ ap (stagedBy (recordsOf map) (at h .store) (at h .state .door .staged)) d;
+            ∙ ap (stagedBy records (at h .store) (at h .state .door .staged)) d;
         store-is = ap (λ (u : View). u .store) M
-            ∙ ap (storeBy (recordsOf map) image (at h .store) (at h .state .door .staged)) d;
+            ∙ ap (storeBy records (start .image) (at h .store) (at h .state .door .staged)) d;
       }
 
   -- the start leaves nothing staged, and the store filled
   pub start-staged : Runs [] → at [] .state .door .staged ≡ noneStaged
-  start-staged A = ap (λ (r : Rooms). r .door .staged) (fresh-rooms store who (at []) (start-rooms A))
+  start-staged A = ap (λ (r : Rooms). r .door .staged) (start-rooms A)
 
-  pub start-store : Runs [] → at [] .store ≡ filledOf (recordsOf map) store image PowerOn
-  start-store A = ap (λ (r : Rooms). r .store) (fresh-rooms store who (at []) (start-rooms A))
+  pub start-store : Runs [] → at [] .store ≡ filledOf records (start .store) (start .image) PowerOn
+  start-store A = ap (λ (r : Rooms). r .store) (start-rooms A)
 
   -- what an accepted input was handed
-  pub ready : (x : Input) (h : List Input) → Runs (x ∷ h) → Ready map (at h .store) image (at h .state)
+  pub ready : (x : Input) (h : List Input) → Runs (x ∷ h)
+      → Ready (start .map) (at h .store) (start .image) (at h .state)
   unfolding unitMachine
-  ready power-on h A = power-accepted map (at h .store) image (at h .state) (A .0) .0
-  ready (hears x) h A = step-accepted map (at h .store) image (at h .state) x (A .0) .0
+  ready power-on h A = power-accepted (start .map) (at h .store) (start .image) (at h .state) (A .0) .0
+  ready (hears x) h A = step-accepted (start .map) (at h .store) (start .image) (at h .state) x (A .0) .0
 
-  pub start-stands : (h : List Input) → Runs h → Stands map store (length image)
+  pub start-stands : (h : List Input) → Runs h → Stands (start .map) (start .store) (length (start .image))
   unfolding unitMachine
-  start-stands [] A = start-accepted map store image who A .0
+  start-stands [] A = start-accepted (start .map) (start .store) (start .image) (start .who) A .0
   start-stands (x ∷ h) A = start-stands h (A .1)

@@ -26,7 +26,7 @@ use Rattle.unit.specs.Bench.{benchMap, benchWho}
 use Rattle.unit.specs.Run.{Input}
 use Rattle.history.specs.Bench.{p11Frames, p12Frames, benchValue, P11Writing, P12NoWriting}
 use Rattle.history.specs.Context.{raisedFrom, onceRegisters, registersOf, pairWho, whoOf, heardIn, poweredIn}
-use Rattle.history.specs.Context.{meant, context, deedAfter}
+use Rattle.history.specs.Context.{meant, deedIn, context, deedAfter}
 use Rattle.history.specs.Lock.{lockBy, lock}
 use Rattle.history.specs.Deeds.{executes, writeDeed, onceDeed, pairDeed, deedBy, deedOf, keeping, enabledBy}
 use Rattle.history.specs.Pairs.{endsPair}
@@ -80,9 +80,9 @@ record Read : Type 0 where
   of-p12 : never (recordsOf benchMap) benchWho benchValue (reverse p12Frames) ≡ true
 
 reads : Read
-unfolding never ripe ripeBy okFor taking unfinished lock lockBy deedAfter context meant poweredIn heardIn whoOf
-    pairWho registersOf onceRegisters raisedFrom enabledBy keeping deedOf deedBy pairDeed onceDeed writeDeed executes
-    endsPair inTime passed withDtr meaningOf specialCommand firstSpecial deviceCommand targetAt read.addressOf
+unfolding never ripe ripeBy okFor taking unfinished lock lockBy deedAfter context meant deedIn poweredIn heardIn
+    whoOf pairWho registersOf onceRegisters raisedFrom enabledBy keeping deedOf deedBy pairDeed onceDeed writeDeed
+    executes endsPair inTime passed withDtr meaningOf specialCommand firstSpecial deviceCommand targetAt read.addressOf
     read.targetOf read.commandOf read.readOf kindOf recordsOf recordAt bits
 reads = record { of-p11 = refl; of-p12 = refl }
 

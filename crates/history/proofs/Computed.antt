@@ -21,13 +21,12 @@ use Rattle.hearing.specs.Meaning.{deviceCommand, firstSpecial, specialCommand, 
 use Rattle.hearing.specs.Pairs.{passed, inTime, completes}
 use Rattle.rooms.specs.Due.{dtrOf, withDtr, shortDue, writeDue, onceDue, pairDue, dueBy, dueOf}
 use Rattle.rooms.specs.Rules.{waitingHolds, doorHolds, stateHolds}
-use Rattle.rooms.specs.State.{withWho, withRegisters, withWaiting, withDoor, withLatch, poweredOn}
+use Rattle.rooms.specs.State.{withWho, withRegisters, withWaiting, withDoor, withLatch, poweredOn, zeroState}
 use Rattle.rooms.specs.Reply.{quiet, answering, refusing}
 use Rattle.numbers.specs.Numbers.{stepNumber, startNumber}
-use Rattle.unit.specs.Bench.{benchMap, benchStore, benchImage, benchWho}
 use Rattle.unit.specs.Run.{Input}
 use Rattle.unit.specs.Step.{hearing, raised, written, done, frameOf, powerOf, stepOf, startOf}
-use Rattle.history.specs.Bench.{p11Frames, p12Frames, benchValue, p11Twice}
+use Rattle.history.specs.Bench.{bench, p11Frames, p12Frames, benchValue, p11Twice}
 use Rattle.history.specs.Demand.{bytesOf}
 use Rattle.history.specs.Wrong.{eachByte, firstOnly, neverStores}
 use Rattle.history.specs.Machine.{Machine, Accepted, unitMachine}
@@ -35,8 +34,7 @@ use Rattle.history.specs.Machine.{Machine, Accepted, unitMachine}
 -- on the bench, after the list: every call accepted, and the value of width 4 is these bytes
 abbrev pub Gives : {S : Type 0} → Machine S → List Input → List ℕ → Type 0
 Gives machine xs bytes =
-    Accepted machine benchMap benchStore benchImage benchWho (reverse xs)
-    × (bytesOf machine benchMap benchStore benchImage benchWho benchValue (reverse xs) ≡ bytes)
+    Accepted machine bench (reverse xs) × (bytesOf machine bench benchValue (reverse xs) ≡ bytes)
 
 pub record Runs : Type 0 where
   pub ours-p12 : Gives unitMachine p12Frames (0x00 ∷ 0x00 ∷ 0x00 ∷ 0x64 ∷ [])
@@ -48,13 +46,13 @@ pub record Runs : Type 0 where
 
 pub runs : Runs
 unfolding unitMachine eachByte firstOnly neverStores stepOf startOf stepNumber startNumber frameOf powerOf done
-    written raised hearing refusing answering quiet poweredOn withLatch withDoor withWaiting withRegisters withWho
-    stateHolds doorHolds waitingHolds dueOf dueBy pairDue onceDue writeDue shortDue withDtr dtrOf completes inTime
-    passed meaningOf specialCommand firstSpecial deviceCommand writeOf writeAt writeFound takeByte bytesWith taken
-    unlocked latchHolds latchedIn zeroFrom stagedHolds stagedIn filledOf fresh chosen selects headBytesHold headHolds
-    headByteHolds banksHold bankHolds placesHold lengthsHold sizeHolds recordsOf recordAt lockByte byteAt putValue
-    valueOf beginner ifFirst holder targetAt read.addressOf read.targetOf read.commandOf read.readOf kindOf put part
-    firstFailing bits
+    written raised hearing refusing answering quiet poweredOn zeroState withLatch withDoor withWaiting withRegisters
+    withWho stateHolds doorHolds waitingHolds dueOf dueBy pairDue onceDue writeDue shortDue withDtr dtrOf completes
+    inTime passed meaningOf specialCommand firstSpecial deviceCommand writeOf writeAt writeFound takeByte bytesWith
+    taken unlocked latchHolds latchedIn zeroFrom stagedHolds stagedIn filledOf fresh chosen selects headBytesHold
+    headHolds headByteHolds banksHold bankHolds placesHold lengthsHold sizeHolds recordsOf recordAt lockByte byteAt
+    putValue valueOf beginner ifFirst holder targetAt read.addressOf read.targetOf read.commandOf read.readOf kindOf
+    put part firstFailing bits
 runs = record {
   ours-p12 = ((refl, (refl, (refl, (refl, (refl, (refl, (refl, (refl, refl)))))))), refl);
   each-byte-p12 = ((refl, (refl, (refl, (refl, (refl, (refl, (refl, (refl, refl)))))))), refl);

@@ -27,7 +27,7 @@ use Rattle.unit.specs.Run.{Input, power-on, hears}
 use Rattle.history.specs.Pairs.{endsPair}
 use Rattle.history.specs.Deeds.{Context, Deed, opens, resets, puts, keeps, breaks, powers, executes, writeDeed}
 use Rattle.history.specs.Deeds.{onceDeed, pairDeed, deedBy, deedOf, keeping, enabledBy}
-use Rattle.history.specs.Context.{meant, heardIn, poweredIn, context, deedAfter}
+use Rattle.history.specs.Context.{meant, deedIn, heardIn, poweredIn, context, deedAfter}
 use Rattle.history.specs.Writing.{deedAt}
 use Rattle.history.proofs.Past.{at-old, at-new, last-or}
 
@@ -78,7 +78,7 @@ module _ (rs : List Record) (k : Context) (p : Bool) where
 
 module _ (rs : List Record) (who : Who) where
   told-at : (x : Heard) (h : List Input) → Told (context rs who h) (deedAfter rs who h (hears x))
-  unfolding deedAfter
+  unfolding deedAfter deedIn
   told-at x h = told rs (context rs who h) (endsPair h x) (meant (context rs who h) x)
 
   pub frame-no-power : (x : Heard) (h : List Input) → deedAfter rs who h (hears x) ≡ powers → ⊥

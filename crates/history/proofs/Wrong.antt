@@ -5,9 +5,9 @@ use mathlib.Core.List.{List, [], _∷_, reverse, List·Memᴰ, List·Memᴰ·hea
 use Prim.Native.Nat.{ℕ}
 use native.Mathlib.Omega.{arith}
 use Rattle.records.specs.Map.{recordAt, recordsOf}
-use Rattle.unit.specs.Bench.{benchMap, benchStore, benchImage, benchWho}
+use Rattle.unit.specs.Bench.{benchMap}
 use Rattle.unit.specs.Run.{Input}
-use Rattle.history.specs.Bench.{p11Frames, p12Frames, benchValue, p11Twice}
+use Rattle.history.specs.Bench.{bench, p11Frames, p12Frames, benchValue, p11Twice}
 use Rattle.history.specs.Demand.{bytesOf, Demand}
 use Rattle.history.specs.Machine.{Machine, after, unitMachine}
 use Rattle.history.specs.Wrong.{eachByte, firstOnly, neverStores, WrongOnesFail}
@@ -21,15 +21,12 @@ bench-member = List·Memᴰ·tail (List·Memᴰ·tail (List·Memᴰ·head refl))
 
 -- a machine that starts as ours does and meets the demand has our bytes
 same-bytes : {S : Type 0} (machine : Machine S) (xs : List Input) (ours theirs : List ℕ)
-    → after machine benchMap benchStore benchImage benchWho [] .store
-    ≡ after unitMachine benchMap benchStore benchImage benchWho [] .store
+    → after machine bench [] .store ≡ after unitMachine bench [] .store
     → Gives unitMachine xs ours → Gives machine xs theirs → Demand machine → ours ≡ theirs
 same-bytes machine xs ours theirs e a b d =
-    let W = d .whole benchMap benchStore benchImage benchWho (reverse xs) (b .0) benchValue bench-member refl in
-    let U = unit-demand .whole benchMap benchStore benchImage benchWho (reverse xs)
-    (a .0) benchValue bench-member refl in
-    sym (a .1) ∙ U .one (bytesOf machine benchMap benchStore benchImage benchWho benchValue (reverse xs))
-    (rw e at (W .value)) ∙ b .1
+    let W = d bench (reverse xs) (b .0) benchValue bench-member refl in
+    let U = unit-demand bench (reverse xs) (a .0) benchValue bench-member refl in
+    sym (a .1) ∙ U .one (bytesOf machine bench benchValue (reverse xs)) (rw e at (W .value)) ∙ b .1
 
 pub wrong-ones-fail : WrongOnesFail
 unfolding eachByte firstOnly neverStores

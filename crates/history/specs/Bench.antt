@@ -6,8 +6,13 @@ use lib.ListN.{length}
 use Rattle.records.specs.Map.{recordsOf}
 use Rattle.records.specs.declared.record.Record.{Record}
 use Rattle.unit.specs.Run.{Input}
-use Rattle.unit.specs.Bench.{benchMap, benchWho, at, enabledBy, lastFrame}
+use Rattle.unit.specs.Bench.{benchMap, benchStore, benchImage, benchWho, at, enabledBy, lastFrame}
+use Rattle.history.specs.Machine.{Start}
 use Rattle.history.specs.Writing.{past, WritingAt}
+
+-- the sheet's start
+abbrev pub bench : Start
+bench = record { map = benchMap; store = benchStore; image = benchImage; who = benchWho }
 
 -- P12's frames, and P11's
 abbrev pub p12Frames : List Input

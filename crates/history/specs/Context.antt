@@ -74,13 +74,17 @@ whoOf k pair (NeedsPair twice) = if pair then pairWho k twice else k .who
 unfoldable pub meant : Context → Heard → Meaning
 meant k x = meaningOf (k .who) (x .frame)
 
--- the context after a frame that ends a pair or not
-unfoldable pub heardIn : List Record → Context → Bool → Meaning → Context
-heardIn rs k pair m =
+-- what the frame, that ends a pair or not, is to a writing
+unfoldable pub deedIn : List Record → Context → Bool → Heard → Deed
+deedIn rs k pair x = deedOf rs k pair (meant k x)
+
+-- the context after it
+unfoldable pub heardIn : List Record → Context → Bool → Heard → Context
+heardIn rs k pair x =
     record {
-      who = whoOf k pair m;
-      registers = registersOf rs k m;
-      enabled = enabledBy (k .enabled) (deedOf rs k pair m);
+      who = whoOf k pair (meant k x);
+      registers = registersOf rs k (meant k x);
+      enabled = enabledBy (k .enabled) (deedIn rs k pair x);
     }
 
 -- start acts as a power-on: DTRs 0, not enabled
@@ -91,9 +95,9 @@ poweredIn who = record { who = who; registers = zeroRegisters; enabled = false }
 unfoldable pub context : List Record → Who → List Input → Context
 context rs who [] = poweredIn who
 context rs who (power-on ∷ h) = poweredIn (context rs who h .who)
-context rs who (hears x ∷ h) = heardIn rs (context rs who h) (endsPair h x) (meant (context rs who h) x)
+context rs who (hears x ∷ h) = heardIn rs (context rs who h) (endsPair h x) x
 
 -- what an input is, after the history h
 unfoldable pub deedAfter : List Record → Who → List Input → Input → Deed
 deedAfter rs who h power-on = powers
-deedAfter rs who h (hears x) = deedOf rs (context rs who h) (endsPair h x) (meant (context rs who h) x)
+deedAfter rs who h (hears x) = deedIn rs (context rs who h) (endsPair h x) x

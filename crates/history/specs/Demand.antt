@@ -10,21 +10,21 @@ use Rattle.records.specs.Map.{recordsOf, writable}
 use Rattle.records.specs.declared.record.Record.{Record}
 use Rattle.banks.specs.Rules.{isLock}
 use Rattle.banks.specs.Values.{valueOf}
-use Rattle.hearing.specs.declared.rooms.Who.{Who}
 use Rattle.unit.specs.Run.{Input, runOf}
 use Rattle.history.specs.Lock.{lock}
 use Rattle.history.specs.Writing.{past, WritingAt}
 use Rattle.history.specs.Value.{Put, PutsNone, ValueAt}
-use Rattle.history.specs.Machine.{Machine, after, Accepted, unitMachine}
+use Rattle.history.specs.Machine.{Machine, Start, after, Accepted, unitMachine}
 
-module _ {S : Type 0} (machine : Machine S) (map store image : List ℕ) (who : Who) where
+module _ {S : Type 0} (machine : Machine S) (start : Start) where
   -- the bytes of v in the store, after h
   abbrev pub bytesOf : Record → List Input → List ℕ
-  bytesOf v h = valueOf v (after machine map store image who h .store)
+  bytesOf v h = valueOf v (after machine start h .store)
 
   -- the grammar's value of v after h, from what the start left
   abbrev pub Value : Record → List Input → List ℕ → Type 0
-  Value v h bytes = ValueAt (recordsOf map) who image (after machine map store image who [] .store) v h bytes
+  Value v h bytes =
+      ValueAt (recordsOf (start .map)) (start .who) (start .image) (after machine start [] .store) v h bytes
 
   -- what is demanded of a writable value v at the point after h
   pub record Whole (v : Record) (h : List Input) : Type 0 where
@@ -34,32 +34,37 @@ module _ {S : Type 0} (machine : Machine S) (map store image : List ℕ) (who : 
     -- and there is one such value
     pub one : (bytes : List ℕ) → Value v h bytes → bytesOf v h ≡ bytes
     -- a complete writing is in the store, whole, in the very step of its last byte
-    pub complete : (bytes : List ℕ) → WritingAt (recordsOf map) who v bytes h → bytesOf v h ≡ bytes
+    pub complete : (bytes : List ℕ) → WritingAt (recordsOf (start .map)) (start .who) v bytes h → bytesOf v h ≡ bytes
     -- one more input that ends no writing of it, and is no reset or power-on of it, changes no byte: a writing cut
     -- short at any frame
-    pub cut : (x : Input) → Accepted machine map store image who (x ∷ h)
-        → ((bytes : List ℕ) → ¬ Put (recordsOf map) who image v (x ∷ h) bytes) → bytesOf v (x ∷ h) ≡ bytesOf v h
+    pub cut : (x : Input) → Accepted machine start (x ∷ h)
+        → ((bytes : List ℕ) → ¬ Put (recordsOf (start .map)) (start .who) (start .image) v (x ∷ h) bytes)
+        → bytesOf v (x ∷ h) ≡ bytesOf v h
     -- so do any number of them: from input i on nothing was put
     pub unchanged : (i : ℕ) → i ≤ length h
-        → ((j : ℕ) → i ≤ j → j < length h → PutsNone (recordsOf map) who image v h j)
+        → ((j : ℕ) → i ≤ j → j < length h → PutsNone (recordsOf (start .map)) (start .who) (start .image) v h j)
         → bytesOf v h ≡ bytesOf v (past h i)
 
 -- for every map, image, store, address and groups, accepted start, and every list of inputs, each accepted: at every
--- point each writable value is whole, and the others are what they were before the start
-pub record Demand {S : Type 0} (machine : Machine S) : Type 0 where
-  pub whole : (map store image : List ℕ) (who : Who) (h : List Input) → Accepted machine map store image who h
-      → (v : Record) → List·Memᴰ v (recordsOf map) → writable v ≡ true → Whole machine map store image who v h
-  pub rest : (map store image : List ℕ) (who : Who) (h : List Input) → Accepted machine map store image who h
-      → (v : Record) → List·Memᴰ v (recordsOf map) → writable v ≡ false
-      → bytesOf machine map store image who v h ≡ valueOf v store
+-- point each writable value is whole
+abbrev pub Demand : {S : Type 0} → Machine S → Type 0
+Demand machine = (start : Start) (h : List Input) → Accepted machine start h
+    → (v : Record) → List·Memᴰ v (recordsOf (start .map)) → writable v ≡ true → Whole machine start v h
+
+-- beside the demand: a value that is not writable is what it was before the start
+abbrev pub ReadOnlyStay : {S : Type 0} → Machine S → Type 0
+ReadOnlyStay machine = (start : Start) (h : List Input) → Accepted machine start h
+    → (v : Record) → List·Memᴰ v (recordsOf (start .map)) → writable v ≡ false
+    → bytesOf machine start v h ≡ valueOf v (start .store)
 
 -- the lock byte by this same grammar: the function `lock` gives the grammar's value of the lock byte
 abbrev pub LockByGrammar : Type 0
-LockByGrammar = (map store image : List ℕ) (who : Who) (h : List Input) → Accepted unitMachine map store image who h
-    → (v : Record) → List·Memᴰ v (recordsOf map) → isLock v ≡ true
-    → Value unitMachine map store image who v h (lock (recordsOf map) who h (v .bank) ∷ [])
+LockByGrammar = (start : Start) (h : List Input) → Accepted unitMachine start h
+    → (v : Record) → List·Memᴰ v (recordsOf (start .map)) → isLock v ≡ true
+    → Value unitMachine start v h (lock (recordsOf (start .map)) (start .who) h (v .bank) ∷ [])
 
 -- a history has its newest input first: the store after it is that of the run of its reverse
 abbrev pub InOrder : Type 0
-InOrder = (map store image : List ℕ) (who : Who) (xs : List Input)
-    → runOf map store image who xs .store ≡ after unitMachine map store image who (reverse xs) .store
+InOrder = (start : Start) (xs : List Input)
+    → runOf (start .map) (start .store) (start .image) (start .who) xs .store
+    ≡ after unitMachine start (reverse xs) .store

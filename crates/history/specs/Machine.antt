@@ -17,18 +17,25 @@ pub record Left (S : Type 0) : Type 0 where
   pub state : S
   pub store : List ℕ
 
--- start, frame step and power-on; the lists of bytes are map, store and image
-pub record Machine (S : Type 0) : Type 0 where
-  pub starts : List ℕ → List ℕ → List ℕ → Who → Left S
-  pub steps : List ℕ → List ℕ → List ℕ → S → Heard → Left S
-  pub powers-on : List ℕ → List ℕ → List ℕ → S → Left S
+-- what a start is told: map, store, reset image, address and groups
+pub record Start : Type 0 where
+  pub map : List ℕ
+  pub store : List ℕ
+  pub image : List ℕ
+  pub who : Who
 
-module _ {S : Type 0} (machine : Machine S) (map store image : List ℕ) (who : Who) where
+-- a frame step and a power-on are lent the store as it is then, not the start's
+pub record Machine (S : Type 0) : Type 0 where
+  pub starts : Start → Left S
+  pub steps : (map store image : List ℕ) → S → Heard → Left S
+  pub powers-on : (map store image : List ℕ) → S → Left S
+
+module _ {S : Type 0} (machine : Machine S) (start : Start) where
   -- after a start and the inputs of h, the newest first
   abbrev pub after : List Input → Left S
-  after [] = machine .starts map store image who
-  after (power-on ∷ h) = machine .powers-on map (after h .store) image (after h .state)
-  after (hears x ∷ h) = machine .steps map (after h .store) image (after h .state) x
+  after [] = machine .starts start
+  after (power-on ∷ h) = machine .powers-on (start .map) (after h .store) (start .image) (after h .state)
+  after (hears x ∷ h) = machine .steps (start .map) (after h .store) (start .image) (after h .state) x
 
   -- the start and each input of h accepted
   abbrev pub Accepted : List Input → Type 0
@@ -42,7 +49,7 @@ leftBy o = record { number = o .answer .reply .number; state = o .answer .state;
 -- ours: the very definitions that the promises of start, step and power_on cite
 unfoldable pub unitMachine : Machine State
 unitMachine = record {
-  starts = λ map store image who. leftBy (startOf map store image who);
+  starts = λ start. leftBy (startOf (start .map) (start .store) (start .image) (start .who));
   steps = λ map store image s x. leftBy (stepOf map store image s x);
   powers-on = λ map store image s. leftBy (powerOnOf map store image s);
 }

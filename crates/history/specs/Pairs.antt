@@ -12,4 +12,4 @@ use Rattle.unit.specs.Run.{Input, power-on, hears}
 unfoldable pub endsPair : List Input → Heard → Bool
 endsPair [] x = false
 endsPair (power-on ∷ h) x = false
-endsPair (hears y ∷ h) x = inTime y x && not (endsPair h y)
+endsPair (hears y ∷ h) x = inTime (y .frame) (y .clock) (x .frame) (x .clock) && not (endsPair h y)

@@ -62,7 +62,7 @@ satedLeft store s l =
 -- stores only the first value, then just answers
 unfoldable pub firstOnly : Machine Sated
 firstOnly = record {
-  starts = λ map store image who. ready (unitMachine .starts map store image who);
+  starts = λ start. ready (unitMachine .starts start);
   steps = λ map store image s x. satedLeft store s (unitMachine .steps map store image (s .state) x);
   powers-on = λ map store image s. ready (unitMachine .powers-on map store image (s .state));
 }
