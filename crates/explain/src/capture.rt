@@ -5,6 +5,7 @@ use crate::entry::entry_at;
 use crate::entry::four_bytes;
 use crate::entry::is_broken;
 use crate::output::print;
+use crate::output::print_refusal;
 use text::Line;
 use text::say_frame;
 use text::say_refusal;
@@ -85,7 +86,7 @@ fn show_some(out: i32) -> Shown {
             return Shown::All;
         }
     }
-    print(say_refusal(Line::new(), 13));
+    print_refusal(13);
     Shown::Broken
 }
 

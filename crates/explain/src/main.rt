@@ -7,6 +7,7 @@ mod values; // before and after
 fn main() {
     let out = os::open_read(b"unit.out");
     if capture::show_capture(out) {
+        output::print(text::Line::new());
         values::show_values(out);
     }
     libc::close(out);

@@ -1,9 +1,9 @@
 // The writable values of the map, before and after.
 ghost use Rattle.io.specs.Counts.{Counts};
 use crate::output::print;
+use crate::output::print_refusal;
 use banks::Record;
 use text::Line;
-use text::say_refusal;
 use text::say_value;
 
 // A missing file counts as empty: nothing is read from what could not be opened.
@@ -30,7 +30,7 @@ fn show_value(r: Record, before: &[u8], after: &[u8]) {
 fn show_each(map: &[u8], before: &[u8], after: &[u8]) {
     let number = banks::check(map, before, after);
     if number != 0 {
-        print(say_refusal(Line::new(), number));
+        print_refusal(number);
         return;
     }
     let n = banks::records(map);
@@ -54,6 +54,5 @@ pub fn show_values(out: i32) {
     let m = read_file(b"unit.map", &mut map);
     let n = read_file(b"unit.sto", &mut before);
     let k = io::read_full(out, &mut after);
-    print(Line::new());
     show_each(&map[..m], &before[..n], &after[..k]);
 }
