@@ -22,8 +22,8 @@ need() {
 # under COMMAND..: how the two below run a program. A script may say it anew, with a limit or a clock.
 under() { "$@"; }
 
-# run_program NAME [ROOT]: runs target/bin/NAME as `rt` does, in this folder. Programs are for x86-64; on Arm the kit's
-# emulator runs them.
+# run_program NAME [ROOT [ARG..]]: runs target/bin/NAME of that folder (this one where none is named) as `rt` does, in this
+# folder, and hands it the arguments. Programs are for x86-64; on Arm the kit's emulator runs them.
 run_program() {
     rt_file=$(readlink -f "$(command -v rt)")
     built=${RATTLE_HOME:-$(dirname "$(dirname "$rt_file")")}/on/$(uname -m)/toolchain
@@ -31,7 +31,8 @@ run_program() {
     [ -x "$emulator" ] || emulator=''
     program=${2:-$(pwd)}/target/bin/$1
     [ -f "$program" ] || { say "mirto: target/bin/$1 is not built"; return 1; }
-    under ${emulator:+"$emulator"} "$built/lib/ld-linux-x86-64.so.2" --library-path "$built/lib" "$program"
+    shift $(($# > 1 ? 2 : 1))
+    under ${emulator:+"$emulator"} "$built/lib/ld-linux-x86-64.so.2" --library-path "$built/lib" "$program" "$@"
 }
 
 # c_compiler: the compiler whose programs link our archive, which is for x86-64.

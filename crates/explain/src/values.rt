@@ -1,8 +1,10 @@
 // The writable values of the map, before and after.
 ghost use Rattle.io.specs.Counts.{Counts};
-use crate::line::Line;
-use crate::words::say_refusal;
+use crate::output::print;
+use crate::output::print_refusal;
 use records::Record;
+use text::Line;
+use text::say_value;
 
 // A missing file counts as empty: nothing is read from what could not be opened.
 fn read_file(name: &[u8], room: &mut [u8]) -> usize
@@ -15,18 +17,11 @@ fn read_file(name: &[u8], room: &mut [u8]) -> usize
 }
 
 fn show_value(r: Record, before: &[u8], after: &[u8]) {
-    let place = Line::new()
-        .numbered(b"bank ", r.bank)
-        .words(b" location ")
-        .hex(r.first);
-    let line = place.words(b": ").bytes(before);
+    let line = say_value(Line::new(), r.bank, r.first, before);
     if check::same(before, after) {
-        line.words(b" unchanged").print();
+        print(line.add(b" unchanged"));
     } else {
-        line.words(b" before, ")
-            .bytes(after)
-            .words(b" after")
-            .print();
+        print(line.add(b" before, ").bytes(after).add(b" after"));
     }
 }
 
@@ -35,7 +30,7 @@ fn show_value(r: Record, before: &[u8], after: &[u8]) {
 fn show_each(map: &[u8], before: &[u8], after: &[u8]) {
     let number = banks::check(map, before, after);
     if number != 0 {
-        say_refusal(Line::new(), number).print();
+        print_refusal(number);
         return;
     }
     let n = records::records(map);
@@ -59,6 +54,5 @@ pub fn show_values(out: i32) {
     let m = read_file(b"unit.map", &mut map);
     let n = read_file(b"unit.sto", &mut before);
     let k = io::read_full(out, &mut after);
-    Line::new().print();
     show_each(&map[..m], &before[..n], &after[..k]);
 }

@@ -6,10 +6,10 @@ use Rattle.explain.proofs.capture.show_records.Statement.{statement}
 use Rattle.explain.proofs.capture.show_records.Tie as tie
 
 abbrev Inv-loop : tie.InvT-loop
-Inv-loop records entries count i₀ i = Unit {0}
+Inv-loop records replies count i₀ i = Unit {0}
 
 abbrev μ-loop : tie.MeasureT-loop
-μ-loop records entries count i₀ i = count - i
+μ-loop records replies count i₀ i = count - i
 
 pub show-records-spec : {M : Type 1} → statement M
 show-records-spec =
@@ -19,8 +19,8 @@ show-records-spec =
     μ-loop
     (λ c. search needs)
     (λ c κs. search needs)
-    (λ c. search needs)
     (λ c κs. search needs)
+    (λ c. search needs)
     (λ c κs. search needs)
     (λ c κs. search needs)
     (λ c κs. search needs)
