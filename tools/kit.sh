@@ -33,10 +33,10 @@ make_room() {
     room=$(mktemp -d) || exit 1
 }
 
-# end_below: ends every process below this one, each by its number, and waits for them.
+# end_below: ends every process below this one, each by its number, and waits until they have ended.
 end_below() {
     trap '' HUP INT TERM
-    kill $(cat /proc/[0-9]*/status 2>/dev/null | awk -v top=$$ '
+    below=$(cat /proc/[0-9]*/status 2>/dev/null | awk -v top=$$ '
         $1 == "Pid:" { pid = $2 }
         $1 == "PPid:" { parent[pid] = $2 }
         END {
@@ -44,9 +44,15 @@ end_below() {
                 for (above = parent[pid]; above != top && above in parent; above = parent[above]) continue
                 if (above == top) print pid
             }
-        }') 2>/dev/null
+        }')
+    kill $below 2>/dev/null
     wait
+    tries=100
+    while [ "$tries" -gt 0 ] && living $below; do sleep 0.1 && tries=$((tries - 1)); done
 }
+
+# living PID..: one of these processes has not ended
+living() { grep -qs '^State:[[:space:]]*[^ZX[:space:]]' /dev/null $(printf '/proc/%s/status ' "$@"); }
 
 # attended COMMAND..: runs it with this standard input, and waits so that an interrupt is heard at once, and not only when
 # the command has ended.
@@ -83,7 +89,7 @@ proving() {
         all=$((all + 1))
         [ -f "target/stamp/$crate" ] || missing=$((missing + 1))
     done
-    [ "$missing" -eq 0 ] || say "first use: $missing of $all crates still to be proved; this can take minutes"
+    [ "$missing" -eq 0 ] || say "proving what this needs: $missing of $all crates, which can take minutes"
     { "$@" 2>&1 </dev/null && echo 'all is proved'; } | say_progress
 }
 

@@ -94,7 +94,8 @@ function banks(    i, j, head, lock, b) {
         for (j = 0; j < n; j++) if (bank[j] == bank[i] && from[j] == 0) head = j
         b = byte["sto", offset[head]]
         if (b < 3 || b > 254)
-            end_with("the stored byte of bank " bank[i] " at location 0 is " b ", not 3 to 254", "byte " offset[head] " of unit.sto")
+            end_with("the stored byte of bank " bank[i] " at location 0 is " b ", not 3 to 254",
+                "byte " offset[head] " of unit.sto")
         if (end[i] > b)
             end_with("the stored byte of bank " bank[i] " at location 0 is " b ", below its location " end[i],
                 "byte " offset[head] " of unit.sto")

@@ -70,5 +70,6 @@ END {
     printf "The unit works from %s (%d), ", bytes(works, width), number(works, width)
     if (bytes(works, width) == whole[r]) print "the last value that was written completely."
     else print "which no setting of this capture has written."
-    printf "It is the %s, in bank %d from location %02X on. All of this unit: %s\n", meaning(r), bank, byte["map", 8 * r + 1], dir
+    printf "It is the %s, in bank %d from location %02X on. All of this unit: %s\n",
+        meaning(r), bank, byte["map", 8 * r + 1], dir
 }
