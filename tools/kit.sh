@@ -33,22 +33,35 @@ make_room() {
     room=$(mktemp -d) || exit 1
 }
 
-# end_below: ends every process below this one, each by its number, and waits until they have ended.
-end_below() {
-    trap '' HUP INT TERM
-    below=$(cat /proc/[0-9]*/status 2>/dev/null | awk -v top=$$ '
+# below: every process below this script, one to a line, but for those of this function itself.
+below() {
+    cat /proc/[0-9]*/status 2>/dev/null | awk -v top=$$ '
         $1 == "Pid:" { pid = $2 }
         $1 == "PPid:" { parent[pid] = $2 }
         END {
+            while ((getline line < "/proc/self/status") > 0) if (split(line, own) && own[1] == "PPid:") here = own[2]
             for (pid in parent) {
-                for (above = parent[pid]; above != top && above in parent; above = parent[above]) continue
-                if (above == top) print pid
+                for (p = pid; p != top && p != here && p in parent; p = parent[p]) continue
+                if (p == top && pid != top) print pid
             }
-        }')
-    kill $below 2>/dev/null
+        }' | sort
+}
+
+# end_below: ends every process below this one, each by its number, and waits until they have ended. They are stopped
+# first: one that runs could start another in the meantime.
+end_below() {
+    trap '' HUP INT TERM
+    stopped='' found=$(below)
+    while [ "$found" != "$stopped" ]; do
+        stopped=$found
+        kill -s STOP $stopped 2>/dev/null
+        found=$(below)
+    done
+    kill -s TERM $stopped 2>/dev/null
+    kill -s CONT $stopped 2>/dev/null
     wait
     tries=100
-    while [ "$tries" -gt 0 ] && living $below; do sleep 0.1 && tries=$((tries - 1)); done
+    while [ "$tries" -gt 0 ] && living $stopped; do sleep 0.1 && tries=$((tries - 1)); done
 }
 
 # living PID..: one of these processes has not ended
