@@ -1,63 +1,83 @@
-# The place of a refusal 6 to 11, as a sentence. Records are counted from 1, as a person counts them.
-function end_with(text) { print number ": " text; done = 1; exit }
-function record(i) { return "record " (i + 1) " (map bytes " (8 * i) " to " (8 * i + 7) ")" }
+# The place of a refusal 6 to 11, as a sentence; status 1 where there is one. Records are counted from 1, as a person counts
+# them. On standard input each file: a line with its name and size, then its first bytes as numbers.
+function end_with(sentence, place) {
+    print number ": " sentence (place == "" ? "" : ", " place)
+    exit 1
+}
+function record(i) { return "record " (i + 1) " of unit.map (bytes " (8 * i) " to " (8 * i + 7) ")" }
 
-BEGIN {
-    bytes = split(map, b, " ")
-    stored = split(sto, s, " ")
-    n = int(bytes / 8)
-    for (i = 0; i < n; i++) {
-        bank[i] = b[8 * i + 1]; from[i] = b[8 * i + 2]; width[i] = b[8 * i + 3]; kind[i] = b[8 * i + 4]
-        lockable[i] = b[8 * i + 5]; zero[i] = b[8 * i + 6]; offset[i] = b[8 * i + 7] * 256 + b[8 * i + 8]
-        writable[i] = kind[i] == 2 || kind[i] == 4
-    }
+$1 ~ /^[a-z]/ { name = $1; size[name] = $2; next }
+{ for (i = 1; i <= NF; i++) byte[name, count[name]++] = $i }
+
+END {
+    n = int(size["map"] / 8)
     if (number == 6) address()
-    if (number == 7) end_with("map of " bytes " bytes: " (bytes > 512 ? "over 512" : "not a multiple of 8"))
+    if (number == 7) length_of_map()
+    read_records()
     if (number == 8) fields()
     if (number == 9) order()
     if (number == 10) places()
     if (number == 11) banks()
-    if (!done) end_with("refused")
+    if (number != 0 && size["sto"] != 4) end_with("the start is refused")
 }
 
-function address(    length_of, a) {
-    length_of = split(adr, a, " ")
-    if (length_of != 5) end_with("unit.adr of " length_of " bytes: it has 5")
-    end_with("unit.adr: address " a[1] ": it is 0 to 63, or 255")
+function read_records(    i) {
+    for (i = 0; i < n; i++) {
+        bank[i] = byte["map", 8 * i]; from[i] = byte["map", 8 * i + 1]; width[i] = byte["map", 8 * i + 2]
+        kind[i] = byte["map", 8 * i + 3]; lockable[i] = byte["map", 8 * i + 4]; zero[i] = byte["map", 8 * i + 5]
+        offset[i] = byte["map", 8 * i + 6] * 256 + byte["map", 8 * i + 7]
+        end[i] = from[i] + width[i] - 1
+        writable[i] = kind[i] == 2 || kind[i] == 4
+    }
+}
+
+function address(    a) {
+    if (size["adr"] != 5) end_with("unit.adr has " size["adr"] " bytes, not 5")
+    a = byte["adr", 0]
+    if (a > 63 && a != 255) end_with("the address is " a ", not 0 to 63 or 255", "byte 0 of unit.adr")
+}
+
+function length_of_map() {
+    if (size["map"] > 512) end_with("unit.map has " size["map"] " bytes, more than 512")
+    if (size["map"] % 8 != 0) end_with("unit.map has " size["map"] " bytes, not a multiple of 8")
 }
 
 function fields(    i) {
     for (i = 0; i < n; i++) {
-        if (bank[i] > 199) end_with(record(i) ": bank " bank[i])
-        if (width[i] < 1 || width[i] > 8) end_with(record(i) ": width " width[i])
-        if (from[i] + width[i] > 255) end_with(record(i) ": last location " (from[i] + width[i] - 1) ": at most 254")
-        if (kind[i] > 4) end_with(record(i) ": kind " kind[i])
-        if (lockable[i] > 1) end_with(record(i) ": lockable " lockable[i])
-        if (lockable[i] == 1 && !writable[i]) end_with(record(i) ": lockable, and of kind " kind[i])
-        if (zero[i] != 0) end_with(record(i) ": byte 5 is " zero[i] ", not 0")
+        if (bank[i] > 199) end_with("the bank is " bank[i] ", more than 199", record(i))
+        if (width[i] < 1 || width[i] > 8) end_with("the width is " width[i] ", not 1 to 8", record(i))
+        if (end[i] > 254) end_with("the last location is " end[i] ", more than 254", record(i))
+        if (kind[i] > 4) end_with("the kind is " kind[i] ", not 0 to 4", record(i))
+        if (lockable[i] > 1) end_with("the byte for lockable is " lockable[i] ", not 0 or 1", record(i))
+        if (lockable[i] == 1 && !writable[i])
+            end_with("a value of kind " kind[i] " is lockable; only kinds 2 and 4 may be", record(i))
+        if (zero[i] != 0) end_with("the byte that has to be 0 is " zero[i], record(i))
     }
 }
 
 function order(    i) {
     for (i = 1; i < n; i++) {
-        if (bank[i] < bank[i - 1]) end_with(record(i) ": bank " bank[i] " after bank " bank[i - 1])
-        if (bank[i] == bank[i - 1] && from[i] < from[i - 1] + width[i - 1])
-            end_with(record(i) ": location " from[i] " is not past the record before it")
+        if (bank[i] < bank[i - 1]) end_with("bank " bank[i] " comes after bank " bank[i - 1], record(i))
+        if (bank[i] == bank[i - 1] && from[i] <= end[i - 1])
+            end_with("the value begins at location " from[i] ", and the one before it ends at " end[i - 1], record(i))
     }
 }
 
 function places(    i, j) {
-    if (stored != kept) end_with("store of " stored " bytes, reset image of " kept)
-    if (stored > 4096) end_with("store of " stored " bytes: at most 4,096")
+    if (size["sto"] != size["rst"])
+        end_with("unit.sto has " size["sto"] " bytes, and unit.rst has " size["rst"])
+    if (size["sto"] > 4096) end_with("unit.sto has " size["sto"] " bytes, more than 4096")
     for (i = 0; i < n; i++)
-        if (offset[i] + width[i] > stored) end_with(record(i) ": its place " offset[i] " is outside the store")
+        if (offset[i] + width[i] > size["sto"])
+            end_with("the value's bytes end at " (offset[i] + width[i] - 1) ", outside the store of " size["sto"] " bytes",
+                record(i))
     for (i = 0; i < n; i++)
         for (j = i + 1; j < n; j++)
             if (offset[i] < offset[j] + width[j] && offset[j] < offset[i] + width[i])
-                end_with(record(i) " and " record(j) ": they share a place of the store")
+                end_with("two values share a byte of the store", record(i) " and " record(j))
 }
 
-function banks(    i, j, head, lock, byte) {
+function banks(    i, j, head, lock, b) {
     for (i = 0; i < n; i++) {
         head = -1; lock = -1
         for (j = 0; j < n; j++) {
@@ -65,15 +85,19 @@ function banks(    i, j, head, lock, byte) {
             if (from[j] == 0 && width[j] == 1 && kind[j] == 0) head = j
             if (from[j] == 2 && width[j] == 1 && kind[j] == 2 && lockable[j] == 0) lock = j
         }
-        if (head < 0) end_with("bank " bank[i] ": no ROM record of width 1 at location 0")
-        if (bank[i] == 0 && writable[i]) end_with(record(i) ": bank 0 with kind " kind[i])
-        if (bank[i] > 0 && lock < 0) end_with("bank " bank[i] ": no lock byte at location 2")
+        if (head < 0) end_with("bank " bank[i] " has no value of width 1 and kind 0 at location 0")
+        if (bank[i] == 0 && writable[i]) end_with("bank 0 has a value of kind " kind[i] ", which is writable", record(i))
+        if (bank[i] > 0 && lock < 0)
+            end_with("bank " bank[i] " has no lock byte (width 1, kind 2, not lockable) at location 2")
     }
     for (i = 0; i < n; i++) {
         for (j = 0; j < n; j++) if (bank[j] == bank[i] && from[j] == 0) head = j
-        byte = s[offset[head] + 1]
-        if (byte < 3 || byte > 254) end_with("bank " bank[i] ": its byte at location 0 is " byte ": 3 to 254")
-        if (from[i] + width[i] > byte + 1)
-            end_with("bank " bank[i] ": its byte at location 0 is " byte ", below location " (from[i] + width[i] - 1))
+        b = byte["sto", offset[head]]
+        if (b < 3 || b > 254)
+            end_with("the stored byte of bank " bank[i] " at location 0 is " b ", not 3 to 254",
+                "byte " offset[head] " of unit.sto")
+        if (end[i] > b)
+            end_with("the stored byte of bank " bank[i] " at location 0 is " b ", below its location " end[i],
+                "byte " offset[head] " of unit.sto")
     }
 }

@@ -2,34 +2,57 @@
 ghost use Prim.Native.Nat.{_*_, _<_, _≤_};
 ghost use lib.ListN.{length};
 ghost use Rattle.io.specs.Counts.{Counts};
+use libc::STDERR_FILENO;
 use libc::STDIN_FILENO;
 use libc::STDOUT_FILENO;
 use rooms::State;
 
 // Between two reads: the state, how many bytes of an unfinished record wait at the front of the input, whether one is
-// left at the end, and whether to read on.
+// left at the end, whether all that was due is written, and whether to read on.
 struct Flow {
     state: State,
     kept: usize,
     unfinished: bool,
+    written: bool,
     goes_on: bool,
 }
 
-// Internal: reads once, behind the bytes that are kept, and answers where the input ends then.
+// A program has no status of its own to end with: what it could not do it says on standard error.
+fn say(sentence: &[u8]) {
+    io::write_all(STDERR_FILENO, sentence);
+}
+
+// Answers whether all of it is written.
+fn put(bytes: &[u8]) -> bool {
+    let written = io::write_all(STDOUT_FILENO, bytes);
+    if !written {
+        say(b"trace: standard output cannot be written: the rest is lost\n");
+    }
+    written
+}
+
+fn note_read(got: isize) {
+    if got < 0 {
+        say(b"trace: standard input cannot be read\n");
+    }
+}
+
+// Internal: reads once, behind the bytes that are kept, and answers where the input ends then. A read that fails ends it.
 fn read_more(input: &mut [u8], kept: usize) -> usize
     requires { ⌜ kept ≤ length (now input) ⌝ }
     ensures { λ r. ⌜ Counts r (now (input .exit)) ⌝ }
 {
     let got = libc::read(STDIN_FILENO, &mut input[kept..]);
+    note_read(got);
     kept + io::count(got, &input[kept..])
 }
 
-// Internal: each record's four bytes.
-fn write_answers(output: &[u8], count: usize)
+// Internal: each record's four bytes. Answers whether all are written.
+fn write_answers(output: &[u8], count: usize) -> bool
     requires { ⌜ 4 * count ≤ length (now output) ⌝ }
 {
     let end = 4 * count;
-    io::write_all(STDOUT_FILENO, &output[..end]);
+    put(&output[..end])
 }
 
 // Internal: reads once, and writes what the records answer that are whole then. A record cut by the read waits.
@@ -47,19 +70,28 @@ fn trace_some(
     let state = flow.state;
     let filled = read_more(input, flow.kept);
     let ran = tracing::run(map, store, image, state, &input[..filled], output);
-    write_answers(output, ran.count);
+    let written = write_answers(output, ran.count);
     let after = ran.state;
     let kept = tracing::keep_rest(input, filled);
     Flow {
         state: after,
         kept: kept,
         unfinished: (kept > 0) & !ran.ended,
-        goes_on: (filled > flow.kept) & !ran.ended,
+        written: written,
+        goes_on: (filled > flow.kept) & !ran.ended & written,
     }
 }
 
-// Answers whether the input ends in an unfinished record. A proved loop has to end, and nothing says that the input
-// does: so it counts its turns down, from a number that no run uses up.
+// The 13 of an unfinished record at the end. Answers whether all is written.
+fn write_end(unfinished: bool, written: bool) -> bool {
+    if unfinished & written {
+        return put(&[13, 0, 0, 0]);
+    }
+    written
+}
+
+// Answers whether all is written. A proved loop has to end, and nothing
+// says that the input does: so it counts its turns down, from a number that no run uses up.
 fn trace_all(map: &[u8], store: &mut [u8], image: &[u8], state: State) -> bool {
     let mut input = io::large_buffer();
     let mut output = io::large_buffer();
@@ -67,6 +99,7 @@ fn trace_all(map: &[u8], store: &mut [u8], image: &[u8], state: State) -> bool {
         state: state,
         kept: 0,
         unfinished: false,
+        written: true,
         goes_on: true,
     };
     let mut turns = u64::MAX;
@@ -74,21 +107,20 @@ fn trace_all(map: &[u8], store: &mut [u8], image: &[u8], state: State) -> bool {
         flow = trace_some(map, store, image, flow, &mut input, &mut output);
         turns -= 1;
     }
-    flow.unfinished
+    write_end(flow.unfinished, flow.written)
 }
 
 // A refused start writes its 4 bytes only. Last the store is written.
 pub fn trace(map: &[u8], store: &mut [u8], image: &[u8], adr: &[u8]) {
     let number = tracing::number_of_files(map, store, image, adr);
     if number != 0 {
-        io::write_all(STDOUT_FILENO, &[number, 0, 0, 0]);
+        put(&[number, 0, 0, 0]);
         return;
     }
     let who = tracing::who_of(adr);
     let started = unit::start(map, store, image, who);
     let state = started.state;
     if trace_all(map, store, image, state) {
-        io::write_all(STDOUT_FILENO, &[13, 0, 0, 0]);
+        put(store);
     }
-    io::write_all(STDOUT_FILENO, store);
 }

@@ -12,10 +12,10 @@ use Rattle.trace.proofs.input.read_more.Tie as tie
 
 returns : tie.Need-returns
 returns c =
-    let kept = c .before .before .before .before .before .before .before .before .args .kept in
-    let before = now (c .before .before .before .before .before .before .before .before .args .input) in
+    let kept = c .before .before .before .before .before .before .before .before .before .args .kept in
+    let before = now (c .before .before .before .before .before .before .before .before .before .args .input) in
     let after = putMid kept (length before - kept) before
-    (c .before .before .before .before .before .read .last .1 .0) in
+    (c .before .before .before .before .before .before .read .last .1 .0) in
     counts _ _ (behind kept (c .count .result) after (length after - kept) (search needs) (c .count .ensures .0 .0))
 
 pub read-more-spec : {M : Type 1} → statement M
@@ -25,6 +25,7 @@ read-more-spec =
     (λ c. search needs)
     (λ c. search needs)
     (λ c. search needs)
+    (λ c κs. search needs)
     (λ c κs. search needs)
     (λ c. search needs)
     (λ c. search needs)

@@ -53,17 +53,14 @@ loop-again c = (
       ∙ c .before .before .before .before .before .before .before .before .before .before .loop .inv .3,
 )
 
+write-end-requires : tie.Need-write-end-requires Inv-loop μ-loop
+write-end-requires c κs = tt
+
 same-length : tie.Need-same-length Inv-loop μ-loop
 same-length c = c .before .before .loop .inv .3
 
 returns : tie.Need-returns Inv-loop μ-loop
 returns c = tt
-
-same-length-2 : tie.Need-same-length-2 Inv-loop μ-loop
-same-length-2 c = c .before .loop .inv .3
-
-returns-2 : tie.Need-returns-2 Inv-loop μ-loop
-returns-2 c = tt
 
 pub trace-all-spec : {M : Type 1} → statement M
 trace-all-spec =
@@ -80,7 +77,6 @@ trace-all-spec =
     sub-turns
     loop-less
     loop-again
+    write-end-requires
     same-length
-    returns
-    same-length-2
-    returns-2)
+    returns)
