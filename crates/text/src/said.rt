@@ -127,6 +127,7 @@ fn event(scheme: Scheme) -> u8 {
     }
 }
 
+// The four sentences of a power cycle follow each other: none, the group, the short address, both.
 fn say_power(line: Line, group: Field, short: Field) -> Line
     ensures { λ r. ⌜ line .length ≤ r .length ⌝ }
 {
