@@ -3,6 +3,7 @@ ghost use Prim.Native.Nat.{_≤_};
 use crate::line::Line;
 use crate::sentences;
 use crate::sentences::say;
+use crate::sentences::say_number;
 use frames::Address;
 use frames::Field;
 use frames::Message;
@@ -147,11 +148,7 @@ fn say_power(line: Line, group: Field, short: Field) -> Line
 pub fn say_refusal(line: Line, number: u8) -> Line
     ensures { λ r. ⌜ line .length ≤ r .length ⌝ }
 {
-    let numbered = line.decimal(number as u32).add(b": ");
-    if number < sentences::REFUSALS {
-        return say(numbered, number, 0, 0, 0);
-    }
-    say(numbered, 0, 0, 0, 0)
+    say_number(line.decimal(number as u32).add(b": "), number)
 }
 
 // The place of a value and its bytes.

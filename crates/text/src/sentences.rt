@@ -1,10 +1,9 @@
-// Every sentence, one to a line of the table; the number of its line is its name in the code.
-ghost use Prim.Native.Nat.{_<_, _≤_};
+// Every sentence, one to a line of a table; the number of its line is its name in the code.
+ghost use Prim.Native.Nat.{_≤_};
 use crate::line::Line;
 
-// The marks: # is the first number in decimal, @ and $ are the second in decimal and in two hexadecimal digits, % is the
-// third in two hexadecimal digits. The first lines are those of the refusals: a number's own, and line 0 for every other.
-const SENTENCES: [u8; 1927] = *b"\
+// The refusals: a number's own sentence, and line 0 for every other number.
+const REFUSALS: [u8; 512] = *b"\
     no such number\n\
     frame 16,777,216 or more\n\
     reserved address byte\n\
@@ -20,6 +19,13 @@ const SENTENCES: [u8; 1927] = *b"\
     a rule of a state broken\n\
     trace record unfinished or of unknown kind\n\
     no value begins there\n\
+";
+
+const LAST_REFUSAL: u8 = 14;
+
+// The others. The marks: # is the first number in decimal, @ and $ are the second in decimal and in two hexadecimal
+// digits, % is the third in two hexadecimal digits.
+const SENTENCES: [u8; 1415] = *b"\
     to short address #\n\
     to device group #\n\
     to all without an address\n\
@@ -72,108 +78,99 @@ const SENTENCES: [u8; 1927] = *b"\
     bank # location $: \n\
 ";
 
-pub const REFUSALS: u8 = 15;
+pub const SHORT_ADDRESS: u8 = 0;
 
-pub const SHORT_ADDRESS: u8 = 15;
+pub const DEVICE_GROUP: u8 = 1;
 
-pub const DEVICE_GROUP: u8 = 16;
+pub const UNADDRESSED: u8 = 2;
 
-pub const UNADDRESSED: u8 = 17;
+pub const BROADCAST: u8 = 3;
 
-pub const BROADCAST: u8 = 18;
+pub const INSTANCE_NUMBER: u8 = 4;
 
-pub const INSTANCE_NUMBER: u8 = 19;
+pub const INSTANCE_GROUP: u8 = 5;
 
-pub const INSTANCE_GROUP: u8 = 20;
+pub const INSTANCE_TYPE: u8 = 6;
 
-pub const INSTANCE_TYPE: u8 = 21;
+pub const ALL_INSTANCES: u8 = 7;
 
-pub const ALL_INSTANCES: u8 = 22;
+pub const FEATURE_AT_NUMBER: u8 = 8;
 
-pub const FEATURE_AT_NUMBER: u8 = 23;
+pub const FEATURE_AT_GROUP: u8 = 9;
 
-pub const FEATURE_AT_GROUP: u8 = 24;
+pub const FEATURE_AT_TYPE: u8 = 10;
 
-pub const FEATURE_AT_TYPE: u8 = 25;
+pub const ALL_FEATURES: u8 = 11;
 
-pub const ALL_FEATURES: u8 = 26;
+pub const DEVICE_FEATURE: u8 = 12;
 
-pub const DEVICE_FEATURE: u8 = 27;
+pub const FEATURE_AT_ALL: u8 = 13;
 
-pub const FEATURE_AT_ALL: u8 = 28;
+pub const DEVICE_COMMAND: u8 = 14;
 
-pub const DEVICE_COMMAND: u8 = 29;
+pub const RESET_MEMORY_BANK: u8 = 15;
 
-pub const RESET_MEMORY_BANK: u8 = 30;
+pub const SET_SHORT_ADDRESS: u8 = 16;
 
-pub const SET_SHORT_ADDRESS: u8 = 31;
+pub const ENABLE_WRITE_MEMORY: u8 = 17;
 
-pub const ENABLE_WRITE_MEMORY: u8 = 32;
+pub const ADD_TO_GROUPS_0: u8 = 18;
 
-pub const ADD_TO_GROUPS_0: u8 = 33;
+pub const ADD_TO_GROUPS_16: u8 = 19;
 
-pub const ADD_TO_GROUPS_16: u8 = 34;
+pub const REMOVE_FROM_GROUPS_0: u8 = 20;
 
-pub const REMOVE_FROM_GROUPS_0: u8 = 35;
+pub const REMOVE_FROM_GROUPS_16: u8 = 21;
 
-pub const REMOVE_FROM_GROUPS_16: u8 = 36;
+pub const QUERY_MISSING_ADDRESS: u8 = 22;
 
-pub const QUERY_MISSING_ADDRESS: u8 = 37;
+pub const QUERY_DTR0: u8 = 23;
 
-pub const QUERY_DTR0: u8 = 38;
+pub const QUERY_DTR1: u8 = 24;
 
-pub const QUERY_DTR1: u8 = 39;
+pub const QUERY_DTR2: u8 = 25;
 
-pub const QUERY_DTR2: u8 = 40;
+pub const READ_MEMORY: u8 = 26;
 
-pub const READ_MEMORY: u8 = 41;
+pub const QUERY_GROUPS_0: u8 = 27;
 
-pub const QUERY_GROUPS_0: u8 = 42;
+pub const QUERY_GROUPS_8: u8 = 28;
 
-pub const QUERY_GROUPS_8: u8 = 43;
+pub const QUERY_GROUPS_16: u8 = 29;
 
-pub const QUERY_GROUPS_16: u8 = 44;
+pub const QUERY_GROUPS_24: u8 = 30;
 
-pub const QUERY_GROUPS_24: u8 = 45;
+pub const SPECIAL: u8 = 31;
 
-pub const SPECIAL: u8 = 46;
+pub const WRITE_MEMORY: u8 = 32;
 
-pub const WRITE_MEMORY: u8 = 47;
+pub const WRITE_WITHOUT_REPLY: u8 = 33;
 
-pub const WRITE_WITHOUT_REPLY: u8 = 48;
+pub const DTR0: u8 = 34;
 
-pub const DTR0: u8 = 49;
+pub const DTR1: u8 = 35;
 
-pub const DTR1: u8 = 50;
+pub const DTR2: u8 = 36;
 
-pub const DTR2: u8 = 51;
+pub const DIRECT_WRITE: u8 = 37;
 
-pub const DIRECT_WRITE: u8 = 52;
+pub const DTR1_DTR0: u8 = 38;
 
-pub const DTR1_DTR0: u8 = 53;
+pub const DTR2_DTR1: u8 = 39;
 
-pub const DTR2_DTR1: u8 = 54;
+pub const TYPE_NUMBER: u8 = 40;
 
-pub const TYPE_NUMBER: u8 = 55;
+pub const SHORT_TYPE: u8 = 41;
 
-pub const SHORT_TYPE: u8 = 56;
+pub const SHORT_NUMBER: u8 = 42;
 
-pub const SHORT_NUMBER: u8 = 57;
+pub const GROUP_TYPE: u8 = 43;
 
-pub const GROUP_TYPE: u8 = 58;
+pub const PRIMARY_TYPE: u8 = 44;
 
-pub const PRIMARY_TYPE: u8 = 59;
+pub const POWER: u8 = 45;
 
-pub const POWER: u8 = 60;
-
-pub const VALUE: u8 = 64;
-
-// Internal: a byte of the table.
-fn byte_at(i: usize) -> u8
-    requires { ⌜ i < 1927 ⌝ }
-{
-    SENTENCES[i]
-}
+pub const VALUE: u8 = 49;
 
 // A byte of a sentence, or what it marks.
 fn filled(line: Line, byte: u8, a: u8, b: u8, c: u8) -> Line
@@ -188,15 +185,15 @@ fn filled(line: Line, byte: u8, a: u8, b: u8, c: u8) -> Line
     }
 }
 
-// Where a sentence begins: after as many line ends as its number says.
-fn start_of(sentence: u8) -> usize {
+// Where a sentence of the table begins: after as many line ends as its number says.
+fn start_of(table: &[u8], sentence: u8) -> usize {
     let mut before = sentence;
     let mut i = 0;
-    while i < 1927 {
+    while i < table.len() {
         if before == 0 {
             return i;
         }
-        if byte_at(i) == b'\n' {
+        if table[i] == b'\n' {
             before -= 1;
         }
         i += 1;
@@ -204,14 +201,14 @@ fn start_of(sentence: u8) -> usize {
     i
 }
 
-// The sentence of a number, its marks filled; nothing where there is no such sentence.
-pub fn say(line: Line, sentence: u8, a: u8, b: u8, c: u8) -> Line
+// The sentence of a number, its marks filled; nothing where the table has no such sentence.
+fn say_of(table: &[u8], line: Line, sentence: u8, a: u8, b: u8, c: u8) -> Line
     ensures { λ r. ⌜ line .length ≤ r .length ⌝ }
 {
     let mut said = line;
-    let mut i = start_of(sentence);
-    while i < 1927 {
-        let byte = byte_at(i);
+    let mut i = start_of(table, sentence);
+    while i < table.len() {
+        let byte = table[i];
         if byte == b'\n' {
             return said;
         }
@@ -219,4 +216,19 @@ pub fn say(line: Line, sentence: u8, a: u8, b: u8, c: u8) -> Line
         i += 1;
     }
     said
+}
+
+// One of the sentences that have marks.
+pub fn say(line: Line, sentence: u8, a: u8, b: u8, c: u8) -> Line
+    ensures { λ r. ⌜ line .length ≤ r .length ⌝ }
+{
+    say_of(&SENTENCES, line, sentence, a, b, c)
+}
+
+// The sentence of a refusal.
+pub fn say_number(line: Line, number: u8) -> Line
+    ensures { λ r. ⌜ line .length ≤ r .length ⌝ }
+{
+    let known = if number <= LAST_REFUSAL { number } else { 0 };
+    say_of(&REFUSALS, line, known, 0, 0, 0)
 }
