@@ -1,21 +1,21 @@
 -- The numbers of the calls, one test behind the other; and what number 0 says of map, store and image.
 -- Assumes nothing.
 use mathlib.Core.Path.{_≡_, refl, sym, _∙_}
-use mathlib.Core.List.{List, [], _∷_}
+use mathlib.Core.List.{List}
 use Prim.Native.Nat.{ℕ, zero, suc, _<_}
 use native.Mathlib.Omega.{arith}
-use lib.Dec.{ltb}
+use borrow.Author.Tests.{lt-ltb}
 use Rattle.laws.specs.Choice.{if_then_else_}
-use Rattle.laws.specs.Numbers.{test, firstFailing}
-use Rattle.laws.proofs.Joined.{joined-none, joined-some}
+use Rattle.laws.specs.Numbers.{firstFailing}
 use Rattle.banks.specs.Map.{recordsOf}
 use Rattle.banks.specs.Rules.{checkNumber}
 use Rattle.banks.specs.Facts.{Stands}
 use Rattle.banks.proofs.Standing.{check-stands}
+use Rattle.hearing.specs.declared.rooms.Heard.{Heard}
 use Rattle.hearing.specs.declared.rooms.Who.{Who}
 use Rattle.rooms.specs.Rules.{addressHolds, stateHolds}
 use Rattle.rooms.specs.declared.state.State.{State}
-use Rattle.numbers.specs.Numbers.{powerTests, powerNumber, stepNumber, startNumber}
+use Rattle.numbers.specs.Numbers.{powerNumber, heardNumber, stepNumber, startNumber}
 use Rattle.numbers.proofs.Numbers.{tests-in-order}
 
 -- a number that is not 0 is that of the call, if the tests before it come first
@@ -46,18 +46,14 @@ module _ (map store : List ℕ) (kept : ℕ) where
       → startNumber map store kept who ≡ (if addressHolds (who .address) then 0 else 6)
   start-then who n e z = tests-in-order map store kept .start-then who (sym e ∙ z)
 
-  -- 7 to 12, then 1
-  pub step-first : (s : State) (frame n : ℕ) → n ≡ powerNumber map store kept s → (n ≡ 0 → ⊥)
-      → n ≡ stepNumber map store kept s frame
-  unfolding stepNumber powerNumber
-  step-first s frame n e ne =
-      first-by n e ne (λ h. joined-some (powerTests map store kept s) (test 1 (ltb frame 16777216) ∷ []) _ h refl)
+  -- 7 to 12, then what is heard
+  pub step-first : (s : State) (heard : Heard) (n : ℕ) → n ≡ powerNumber map store kept s → (n ≡ 0 → ⊥)
+      → n ≡ stepNumber map store kept s heard
+  step-first s heard n e ne = first-by n e ne (tests-in-order map store kept .step-powered s heard)
 
-  pub step-then : (s : State) (frame n : ℕ) → n ≡ powerNumber map store kept s → n ≡ 0
-      → stepNumber map store kept s frame ≡ (if ltb frame 16777216 then 0 else 1)
-  unfolding stepNumber powerNumber firstFailing
-  step-then s frame n e z =
-      joined-none (powerTests map store kept s) (test 1 (ltb frame 16777216) ∷ []) refl (sym e ∙ z)
+  pub step-then : (s : State) (heard : Heard) (n : ℕ) → n ≡ powerNumber map store kept s → n ≡ 0
+      → stepNumber map store kept s heard ≡ heardNumber map store s heard
+  step-then s heard n e z = tests-in-order map store kept .step-heard s heard (sym e ∙ z)
 
   pub checked : checkNumber map store kept ≡ 0 → Stands map store kept
   checked e = check-stands map store kept .0 e
@@ -68,5 +64,18 @@ module _ (map store : List ℕ) (kept : ℕ) where
   pub started : (who : Who) → startNumber map store kept who ≡ 0 → Stands map store kept
   started who e = checked (none-by _ _ (tests-in-order map store kept .start-first who) e)
 
-  pub stepped : (s : State) (frame : ℕ) → stepNumber map store kept s frame ≡ 0 → Stands map store kept
-  stepped s frame e = checked (none-by _ _ (tests-in-order map store kept .step-first s frame) e)
+  -- number 0 of a step: that of a power-on is 0, and that of what is heard
+  pub step-passed : (s : State) (heard : Heard) → stepNumber map store kept s heard ≡ 0
+      → (powerNumber map store kept s ≡ 0) × (heardNumber map store s heard ≡ 0)
+  step-passed s heard e =
+      let p = none-by _ _ (tests-in-order map store kept .step-powered s heard) e in
+      (p, sym (tests-in-order map store kept .step-heard s heard p) ∙ e)
+
+  pub stepped : (s : State) (heard : Heard) → stepNumber map store kept s heard ≡ 0 → Stands map store kept
+  stepped s heard e = powered s (step-passed s heard e .0)
+
+-- a number below 16,777,216 is a frame
+pub frame-passes : (map store : List ℕ) (s : State) (heard : Heard) → heard .frame < 16777216
+    → heardNumber map store s heard ≡ 0
+unfolding heardNumber firstFailing
+frame-passes map store s heard l = rw (lt-ltb (heard .frame) 16777216 l)

@@ -16,7 +16,7 @@ use Rattle.memory.specs.Latched.{latchFrom, showByte, readAt, readOf as shownOf
 use Rattle.memory.specs.Rooms.{stagedIn, stagedHolds, latchedIn, latchHolds, zeroFrom}
 use Rattle.hearing.specs.Meaning.{deviceCommand, firstSpecial, specialCommand, meaningOf}
 use Rattle.hearing.specs.Pairs.{passed, inTime, completes}
-use Rattle.rooms.specs.State.{withWho, withRegisters, withWaiting, withDoor, withLatch, poweredOn}
+use Rattle.rooms.specs.State.{withWho, withRegisters, withWaiting, withDoor, withLatch, poweredOn, zeroState}
 use Rattle.rooms.specs.Rules.{waitingHolds, doorHolds, stateHolds}
 use Rattle.rooms.specs.Due.{dtrOf, withDtr, groupByte, groupWord}
 
@@ -45,5 +45,5 @@ unfolding stagedIn stagedHolds latchedIn latchHolds zeroFrom waitingHolds doorHo
 keeping = tt
 
 unfoldable pub rooms : Unit {0}
-unfolding withWho withRegisters withWaiting withDoor withLatch poweredOn dtrOf withDtr groupByte groupWord
+unfolding withWho withRegisters withWaiting withDoor withLatch poweredOn zeroState dtrOf withDtr groupByte groupWord
 rooms = tt

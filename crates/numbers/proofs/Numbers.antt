@@ -1,21 +1,25 @@
 -- The numbers of the calls: settled, given exactly if, and in order.
 -- Assumes nothing.
 use Prim.Native.Nat.{ℕ, _<_}
-use mathlib.Core.Path.{_≡_, refl}
-use mathlib.Core.Bool.{true}
+use mathlib.Core.Path.{_≡_, refl, _∙_}
+use mathlib.Core.Bool.{Bool, true, false}
 use mathlib.Core.List.{List, [], _∷_, _++_}
+use native.Mathlib.Omega.{arith}
 use lib.Dec.{ltb}
 use lib.ListN.{length}
+use Rattle.laws.specs.Choice.{if_then_else_}
 use Rattle.laws.specs.Numbers.{Test, test, firstFailing, numbered}
 use Rattle.laws.proofs.Numbers.{exactly-if, none-exactly-if}
 use Rattle.laws.proofs.Joined.{joined-none, joined-some}
 use Rattle.laws.proofs.Settled.{settles}
 use Rattle.banks.specs.Map.{recordsOf}
 use Rattle.banks.specs.Rules.{checkTests, checkNumber}
+use Rattle.hearing.specs.declared.rooms.Heard.{Heard}
 use Rattle.hearing.specs.declared.rooms.Who.{Who}
 use Rattle.rooms.specs.Rules.{addressHolds, stateHolds}
 use Rattle.rooms.specs.declared.state.State.{State}
-use Rattle.numbers.specs.Numbers.{startTests, startNumber, powerTests, powerNumber, stepTests, stepNumber}
+use Rattle.numbers.specs.Numbers.{startTests, startNumber, powerTests, powerNumber, heardTests, heardNumber}
+use Rattle.numbers.specs.Numbers.{stepTests, stepNumber}
 use Rattle.numbers.specs.Promises.{GivenBy, NumbersSettled, CallsNumbered, TestsInOrder}
 
 pub numbers-settled : NumbersSettled
@@ -23,7 +27,7 @@ numbers-settled map store image =
     record {
       start-number = λ who. settles (startNumber map store (length image) who);
       power-number = λ s. settles (powerNumber map store (length image) s);
-      step-number = λ s frame. settles (stepNumber map store (length image) s frame);
+      step-number = λ s heard. settles (stepNumber map store (length image) s heard);
     }
 
 given-by : (tests : List Test) → numbered tests ≡ true → GivenBy (firstFailing tests) tests
@@ -35,7 +39,7 @@ calls-numbered map store image =
     record {
       start = λ who. given-by (startTests map store (length image) who) refl;
       power-on = λ s. given-by (powerTests map store (length image) s) refl;
-      step = λ s frame. given-by (stepTests map store (length image) s frame) refl;
+      step = λ s heard. given-by (stepTests map store (length image) s heard) refl;
     }
 
 -- the tests behind 7 to 11
@@ -44,9 +48,6 @@ startsBehind who = test 6 (addressHolds (who .address)) ∷ []
 
 abbrev pub powersBehind : List ℕ → List ℕ → State → List Test
 powersBehind map store s = test 12 (stateHolds (recordsOf map) store s) ∷ []
-
-abbrev pub stepsBehind : List ℕ → List ℕ → State → ℕ → List Test
-stepsBehind map store s frame = test 12 (stateHolds (recordsOf map) store s) ∷ test 1 (ltb frame 16777216) ∷ []
 
 -- 7 to 11 give their number, or the tests behind them do
 module _ (map store : List ℕ) (kept : ℕ) (us : List Test) where
@@ -59,14 +60,50 @@ module _ (map store : List ℕ) (kept : ℕ) (us : List Test) where
   unfolding checkNumber
   checks-passed e = joined-none (checkTests map store kept) us refl e
 
+module _ (map store : List ℕ) (kept : ℕ) (s : State) where
+  power-first : 0 < checkNumber map store kept → powerNumber map store kept s ≡ checkNumber map store kept
+  unfolding powerNumber
+  power-first = checks-first map store kept (powersBehind map store s)
+
+  power-then : checkNumber map store kept ≡ 0
+      → powerNumber map store kept s ≡ (if stateHolds (recordsOf map) store s then 0 else 12)
+  unfolding powerNumber firstFailing
+  power-then = checks-passed map store kept (powersBehind map store s)
+
+  -- 7 to 12 give their number, or what is heard does
+  module _ (heard : Heard) where
+    step-powered : 0 < powerNumber map store kept s → stepNumber map store kept s heard ≡ powerNumber map store kept s
+    unfolding powerNumber stepNumber
+    step-powered h = joined-some (powerTests map store kept s) (heardTests map store s heard) _ h refl
+
+    step-heard : powerNumber map store kept s ≡ 0 → stepNumber map store kept s heard ≡ heardNumber map store s heard
+    unfolding powerNumber heardNumber stepNumber
+    step-heard e = joined-none (powerTests map store kept s) (heardTests map store s heard) refl e
+
+    step-first : 0 < checkNumber map store kept → stepNumber map store kept s heard ≡ checkNumber map store kept
+    step-first h = step-powered (rw (power-first h) h) ∙ power-first h
+
+    step-then : checkNumber map store kept ≡ 0
+        → stepNumber map store kept s heard
+        ≡ (if stateHolds (recordsOf map) store s then (if ltb (heard .frame) 16777216 then 0 else 1) else 12)
+    unfolding heardNumber firstFailing
+    step-then e = go (stateHolds (recordsOf map) store s) (power-then e)
+      where
+        go : (b : Bool) → powerNumber map store kept s ≡ (if b then 0 else 12)
+            → stepNumber map store kept s heard ≡ (if b then (if ltb (heard .frame) 16777216 then 0 else 1) else 12)
+        go true q = step-heard q
+        go false q = step-powered (omega arith) ∙ q
+
 pub tests-in-order : TestsInOrder
-unfolding startNumber powerNumber stepNumber firstFailing
+unfolding startNumber firstFailing
 tests-in-order map store kept =
     record {
       start-first = λ who. checks-first map store kept (startsBehind who);
-      power-first = λ s. checks-first map store kept (powersBehind map store s);
-      step-first = λ s frame. checks-first map store kept (stepsBehind map store s frame);
+      power-first = power-first map store kept;
+      step-first = step-first map store kept;
       start-then = λ who. checks-passed map store kept (startsBehind who);
-      power-then = λ s. checks-passed map store kept (powersBehind map store s);
-      step-then = λ s frame. checks-passed map store kept (stepsBehind map store s frame);
+      power-then = power-then map store kept;
+      step-then = step-then map store kept;
+      step-powered = step-powered map store kept;
+      step-heard = step-heard map store kept;
     }

@@ -7,30 +7,32 @@ use mathlib.Core.Bool.{Bool, true, false}
 use mathlib.Core.List.{List, [], _∷_, map}
 use lib.ListN.{length}
 use Rattle.banks.specs.Cases.{benchMap, benchStore}
-use Rattle.rooms.specs.State.{withWho, withWaiting, withDoor, withLatch, poweredOn}
+use Rattle.hearing.specs.Pairs.{heardAt}
+use Rattle.hearing.specs.declared.rooms.Heard.{Heard}
+use Rattle.rooms.specs.State.{withWho, withWaiting, withDoor, withLatch, poweredOn, zeroState}
 use Rattle.rooms.specs.declared.state.State.{State}
 use Rattle.numbers.specs.Numbers.{startNumber, powerNumber, stepNumber}
 
--- a state, the store with it, a frame, and the number of a step; a power-on has the same, but for 1
+-- a state, the store with it, what is heard, and the number of a step; a power-on has the same, but for 1
 pub record StateCase : Type 0 where
   pub state : State
   pub store : List ℕ
-  pub frame : ℕ
+  pub heard : Heard
   pub step : ℕ
   pub power-on : ℕ
 
 abbrev idle : State
-idle = poweredOn (record { address = 5; groups = 0 })
+idle = poweredOn (withWho zeroState (record { address = 5; groups = 0 }))
 
 -- the lock byte 0x55
 abbrev openStore : List ℕ
 openStore = 0x06 ∷ 0x55 ∷ 0x00 ∷ 0x00 ∷ 0x00 ∷ 0x64 ∷ []
 
 abbrev in12 : State → List ℕ → StateCase
-in12 s store = record { state = s; store = store; frame = 0; step = 12; power-on = 12 }
+in12 s store = record { state = s; store = store; heard = heardAt 0 0; step = 12; power-on = 12 }
 
 abbrev in0 : State → List ℕ → StateCase
-in0 s store = record { state = s; store = store; frame = 0; step = 0; power-on = 0 }
+in0 s store = record { state = s; store = store; heard = heardAt 0 0; step = 0; power-on = 0 }
 
 abbrev address : ℕ → State
 address a = withWho idle (record { address = a; groups = 0 })
@@ -103,16 +105,16 @@ stateCases =
     ∷ in12 (latch false 0 0 (eight 9 0 0 0 0)) benchStore
     ∷ in12 (latch true 2 3 (eight 9 9 9 9 9)) benchStore
     -- a frame then 1; 7 to 11 before 12, and 12 before 1
-    ∷ record { state = idle; store = benchStore; frame = 16777215; step = 0; power-on = 0 }
-    ∷ record { state = idle; store = benchStore; frame = 16777216; step = 1; power-on = 0 }
-    ∷ record { state = address 64; store = benchStore; frame = 16777216; step = 12; power-on = 12 }
-    ∷ record { state = address 64; store = 0x05 ∷ benchStore; frame = 16777216; step = 10; power-on = 10 }
+    ∷ record { state = idle; store = benchStore; heard = heardAt 0 16777215; step = 0; power-on = 0 }
+    ∷ record { state = idle; store = benchStore; heard = heardAt 0 16777216; step = 1; power-on = 0 }
+    ∷ record { state = address 64; store = benchStore; heard = heardAt 0 16777216; step = 12; power-on = 12 }
+    ∷ record { state = address 64; store = 0x05 ∷ benchStore; heard = heardAt 0 16777216; step = 10; power-on = 10 }
     ∷ []
 
 -- each case gets its numbers
 unfoldable pub StateCases : Type 0
 StateCases =
-    (map (λ c. stepNumber benchMap (c .store) (length benchStore) (c .state) (c .frame)) stateCases
+    (map (λ c. stepNumber benchMap (c .store) (length benchStore) (c .state) (c .heard)) stateCases
     ≡ map (λ c. c .step) stateCases)
     × (map (λ c. powerNumber benchMap (c .store) (length benchStore) (c .state)) stateCases
     ≡ map (λ c. c .power-on) stateCases)

@@ -6,18 +6,10 @@ use lib.Dec.{ltb}
 use Rattle.laws.specs.Numbers.{Test, test, firstFailing}
 use Rattle.banks.specs.Map.{recordsOf}
 use Rattle.banks.specs.Rules.{checkTests}
+use Rattle.hearing.specs.declared.rooms.Heard.{Heard}
 use Rattle.hearing.specs.declared.rooms.Who.{Who}
 use Rattle.rooms.specs.Rules.{addressHolds, stateHolds}
 use Rattle.rooms.specs.declared.state.State.{State}
-
--- a frame step tests 7 to 12, then 1
-abbrev pub stepTests : List ℕ → List ℕ → ℕ → State → ℕ → List Test
-stepTests map store kept s frame =
-    checkTests map store kept
-    ++ test 12 (stateHolds (recordsOf map) store s) ∷ test 1 (ltb frame 16777216) ∷ []
-
-unfoldable pub stepNumber : List ℕ → List ℕ → ℕ → State → ℕ → ℕ
-stepNumber map store kept s frame = firstFailing (stepTests map store kept s frame)
 
 -- a later power-on tests 7 to 12
 abbrev pub powerTests : List ℕ → List ℕ → ℕ → State → List Test
@@ -25,6 +17,20 @@ powerTests map store kept s = checkTests map store kept ++ test 12 (stateHolds (
 
 unfoldable pub powerNumber : List ℕ → List ℕ → ℕ → State → ℕ
 powerNumber map store kept s = firstFailing (powerTests map store kept s)
+
+-- a frame then 1: what is heard is tested where map, store and state have passed 7 to 12
+abbrev pub heardTests : List ℕ → List ℕ → State → Heard → List Test
+heardTests map store s heard = test 1 (ltb (heard .frame) 16777216) ∷ []
+
+unfoldable pub heardNumber : List ℕ → List ℕ → State → Heard → ℕ
+heardNumber map store s heard = firstFailing (heardTests map store s heard)
+
+-- a frame step tests 7 to 12, then what is heard
+abbrev pub stepTests : List ℕ → List ℕ → ℕ → State → Heard → List Test
+stepTests map store kept s heard = powerTests map store kept s ++ heardTests map store s heard
+
+unfoldable pub stepNumber : List ℕ → List ℕ → ℕ → State → Heard → ℕ
+stepNumber map store kept s heard = firstFailing (stepTests map store kept s heard)
 
 -- start tests 7 to 11, then 6
 abbrev pub startTests : List ℕ → List ℕ → ℕ → Who → List Test

@@ -13,16 +13,18 @@ use Rattle.laws.specs.Numbers.{Test, Given}
 use Rattle.laws.specs.Settled.{Settles}
 use Rattle.banks.specs.Map.{recordsOf}
 use Rattle.banks.specs.Rules.{checkNumber}
+use Rattle.hearing.specs.declared.rooms.Heard.{Heard}
 use Rattle.hearing.specs.declared.rooms.Who.{Who}
 use Rattle.rooms.specs.Rules.{addressHolds, stateHolds}
 use Rattle.rooms.specs.declared.state.State.{State}
-use Rattle.numbers.specs.Numbers.{startTests, startNumber, powerTests, powerNumber, stepTests, stepNumber}
+use Rattle.numbers.specs.Numbers.{startTests, startNumber, powerTests, powerNumber, heardNumber, stepTests}
+use Rattle.numbers.specs.Numbers.{stepNumber}
 
 -- results meeting the same promise are equal
 pub record Settled (map store image : List ℕ) : Type 0 where
   pub start-number : (who : Who) → Settles (λ n. n ≡ startNumber map store (length image) who)
   pub power-number : (s : State) → Settles (λ n. n ≡ powerNumber map store (length image) s)
-  pub step-number : (s : State) (frame : ℕ) → Settles (λ n. n ≡ stepNumber map store (length image) s frame)
+  pub step-number : (s : State) (heard : Heard) → Settles (λ n. n ≡ stepNumber map store (length image) s heard)
 
 -- a number is given exactly if every test before its own passes and its own fails; 0 exactly if all pass
 pub record GivenBy (number : ℕ) (tests : List Test) : Type 0 where
@@ -34,8 +36,8 @@ pub record Numbered (map store image : List ℕ) : Type 0 where
   -- start tests 7 to 11, then 6; a later power-on 7 to 12; a frame step 7 to 12, then 1
   pub start : (who : Who) → GivenBy (startNumber map store (length image) who) (startTests map store (length image) who)
   pub power-on : (s : State) → GivenBy (powerNumber map store (length image) s) (powerTests map store (length image) s)
-  pub step : (s : State) (frame : ℕ)
-      → GivenBy (stepNumber map store (length image) s frame) (stepTests map store (length image) s frame)
+  pub step : (s : State) (heard : Heard)
+      → GivenBy (stepNumber map store (length image) s heard) (stepTests map store (length image) s heard)
 
 -- the order of the tests: in each call 7 to 11 come first; then 6 at a start, 12 at a power-on, 12 and 1 at a step
 pub record InOrder (map store : List ℕ) (kept : ℕ) : Type 0 where
@@ -43,15 +45,21 @@ pub record InOrder (map store : List ℕ) (kept : ℕ) : Type 0 where
       → startNumber map store kept who ≡ checkNumber map store kept
   pub power-first : (s : State) → 0 < checkNumber map store kept
       → powerNumber map store kept s ≡ checkNumber map store kept
-  pub step-first : (s : State) (frame : ℕ) → 0 < checkNumber map store kept
-      → stepNumber map store kept s frame ≡ checkNumber map store kept
+  pub step-first : (s : State) (heard : Heard) → 0 < checkNumber map store kept
+      → stepNumber map store kept s heard ≡ checkNumber map store kept
   pub start-then : (who : Who) → checkNumber map store kept ≡ 0
       → startNumber map store kept who ≡ (if addressHolds (who .address) then 0 else 6)
   pub power-then : (s : State) → checkNumber map store kept ≡ 0
       → powerNumber map store kept s ≡ (if stateHolds (recordsOf map) store s then 0 else 12)
-  pub step-then : (s : State) (frame : ℕ) → checkNumber map store kept ≡ 0
-      → stepNumber map store kept s frame
-      ≡ (if stateHolds (recordsOf map) store s then (if ltb frame 16777216 then 0 else 1) else 12)
+  pub step-then : (s : State) (heard : Heard) → checkNumber map store kept ≡ 0
+      → stepNumber map store kept s heard
+      ≡ (if stateHolds (recordsOf map) store s then (if ltb (heard .frame) 16777216 then 0 else 1) else 12)
+  -- so a step has the number of a power-on, or where that is 0 the number of what is heard: who runs many frames tests
+  -- 7 to 12 once, and then each frame
+  pub step-powered : (s : State) (heard : Heard) → 0 < powerNumber map store kept s
+      → stepNumber map store kept s heard ≡ powerNumber map store kept s
+  pub step-heard : (s : State) (heard : Heard) → powerNumber map store kept s ≡ 0
+      → stepNumber map store kept s heard ≡ heardNumber map store s heard
 
 abbrev pub NumbersSettled : Type 0
 NumbersSettled = (map store image : List ℕ) → Settled map store image

@@ -1,7 +1,10 @@
 // The numbers of a start, of a power-on and of a frame step.
 ghost use mathlib.Core.Path.{_≡_};
+ghost use mathlib.Core.Bool.{true};
 ghost use lib.ListN.{length};
-ghost use Rattle.numbers.specs.Numbers.{stepNumber, powerNumber, startNumber};
+ghost use Rattle.banks.specs.Rules.{placed};
+ghost use Rattle.numbers.specs.Numbers.{heardNumber, stepNumber, powerNumber, startNumber};
+use hearing::Heard;
 use hearing::Who;
 use rooms::State;
 use rooms::address_holds;
@@ -22,15 +25,23 @@ pub fn power_number(map: &[u8], store: &[u8], image: &[u8], state: State) -> u8
     }
 }
 
-// The number of a frame step: 7 to 12, then 1, or 0.
-pub fn step_number(map: &[u8], store: &[u8], image: &[u8], state: State, frame: u32) -> u8
-    ensures { λ r. ⌜ r ≡ stepNumber (now (map .entry)) (now (store .entry)) (length (now (image .entry))) state frame ⌝ }
+// Internal: the number of what is heard: 1, or 0. Map, store and state have passed 7 to 12.
+pub fn heard_number(map: &[u8], store: &[u8], state: State, heard: Heard) -> u8
+    requires { ⌜ placed (now map) (length (now store)) ≡ true ⌝ }
+    ensures { λ r. ⌜ r ≡ heardNumber (now (map .entry)) (now (store .entry)) state heard ⌝ }
+{
+    if heard.frame < 16777216 { 0 } else { 1 }
+}
+
+// The number of a frame step: 7 to 12, then that of what is heard.
+pub fn step_number(map: &[u8], store: &[u8], image: &[u8], state: State, heard: Heard) -> u8
+    ensures { λ r. ⌜ r ≡ stepNumber (now (map .entry)) (now (store .entry)) (length (now (image .entry))) state heard ⌝ }
 {
     let number = power_number(map, store, image, state);
     if number != 0 {
         return number;
     }
-    if frame < 16777216 { 0 } else { 1 }
+    heard_number(map, store, state, heard)
 }
 
 // The number of a start: 7 to 11, then 6, or 0.

@@ -1,3 +1,4 @@
 pub mod Codes
 pub mod Dues
+pub mod Powered
 pub mod Promises

@@ -23,8 +23,9 @@ pub record StatePowered (who : Who) (s : State) : Type 0 where
   pub none-staged : s .door .staged .count ≡ 0
   pub none-latched : s .latch .held ≡ false
 
+-- after a power-on, address and groups are those from before it
 abbrev pub PoweredOn : Type 0
-PoweredOn = (who : Who) → StatePowered who (poweredOn who)
+PoweredOn = (s : State) → StatePowered (s .who) (poweredOn s)
 
 -- SET SHORT ADDRESS takes exactly what may be an address
 abbrev pub ShortTakesAddress : Type 0

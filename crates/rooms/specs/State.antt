@@ -38,11 +38,17 @@ shutDoor = record { enabled = false; staged = noneStaged }
 abbrev pub openDoor : Door
 openDoor = record { enabled = true; staged = noneStaged }
 
--- DTRs 0; nothing waiting, enabled, staged or latched
-unfoldable pub poweredOn : Who → State
-poweredOn who =
-    record { who = who; registers = zeroRegisters; waiting = noneWaits; door = shutDoor; latch = noneLatched }
+-- DTRs 0; nothing waiting, enabled, staged or latched. What is not named stays: address and groups
+unfoldable pub poweredOn : State → State
+poweredOn s = withLatch (withDoor (withWaiting (withRegisters s zeroRegisters) noneWaits) shutDoor) noneLatched
 
 -- all zeros
-abbrev pub zeroState : State
-zeroState = poweredOn (record { address = 0; groups = 0 })
+unfoldable pub zeroState : State
+zeroState =
+    record {
+      who = record { address = 0; groups = 0 };
+      registers = zeroRegisters;
+      waiting = noneWaits;
+      door = shutDoor;
+      latch = noneLatched;
+    }

@@ -25,3 +25,4 @@ pub use state::with_latch;
 pub use state::with_registers;
 pub use state::with_waiting;
 pub use state::with_who;
+pub use state::zero_state;

@@ -1,7 +1,7 @@
 // The state, in rooms.
 ghost use mathlib.Core.Path.{_≡_};
 ghost use Rattle.rooms.specs.State.{withWho, withRegisters, withWaiting, withDoor, withLatch};
-ghost use Rattle.rooms.specs.State.{shutDoor, openDoor, poweredOn};
+ghost use Rattle.rooms.specs.State.{zeroRegisters, shutDoor, openDoor, poweredOn, zeroState};
 use hearing::Waiting;
 use hearing::Who;
 use memory::Latch;
@@ -90,14 +90,36 @@ pub fn open_door() -> Door
     }
 }
 
-pub fn powered_on(who: Who) -> State
-    ensures { λ r. ⌜ r ≡ poweredOn who ⌝ }
+fn zero_registers() -> Registers
+    ensures { λ r. ⌜ r ≡ zeroRegisters ⌝ }
 {
-    let registers = Registers {
+    Registers {
         dtr0: 0,
         dtr1: 0,
         dtr2: 0,
+    }
+}
+
+// DTRs 0; nothing waiting, enabled, staged or latched. What is not named stays, so this goes by setters.
+pub fn powered_on(state: State) -> State
+    ensures { λ r. ⌜ r ≡ poweredOn state ⌝ }
+{
+    let cleared = with_waiting(
+        with_registers(state, zero_registers()),
+        hearing::none_waits(),
+    );
+    with_latch(with_door(cleared, shut_door()), memory::none_latched())
+}
+
+// All zeros: the one whole state that is spelled out.
+pub fn zero_state() -> State
+    ensures { λ r. ⌜ r ≡ zeroState ⌝ }
+{
+    let who = Who {
+        address: 0,
+        groups: 0,
     };
+    let registers = zero_registers();
     let waiting = hearing::none_waits();
     let door = shut_door();
     let latch = memory::none_latched();

@@ -12,10 +12,12 @@ use Rattle.laws.specs.Outcome.{Outcome}
 use Rattle.laws.proofs.Tests.{if-eq, both}
 use Rattle.banks.specs.Map.{writable}
 use Rattle.memory.specs.Promises.{ChangesOnly}
-use Rattle.rooms.specs.State.{zeroState}
+use Rattle.rooms.specs.State.{withWho, zeroState}
 use Rattle.rooms.specs.declared.state.State.{State}
 use Rattle.rooms.specs.declared.reply.Stepped.{Stepped}
+use Rattle.rooms.proofs.Powered.{named-who}
 use Rattle.numbers.specs.Numbers.{powerNumber}
+use Rattle.numbers.proofs.Behind.{frame-passes}
 use Rattle.unit.specs.Step.{startOf, powerOnOf, stepOf, unless}
 use Rattle.unit.specs.Keeping.{CallsKeepStore, OneValue, OneValueChanges, CallsPowerOn}
 use Rattle.unit.specs.Keeping.{PassesAgain, CallsAcceptedAgain, AllAccepted, isInput, RunAccepted}
@@ -37,31 +39,33 @@ store-kept map store image =
     record {
       start = λ who.
           unless-store (λ after. ChangesOnly map store after (λ r. r .kind ≡ 2)) _ zeroState store _
-          (unchanged map store _) (λ e. powered-changes map store image who (start-sound map store kept who e .0));
+          (unchanged map store _)
+          (λ e. powered-changes map store image (withWho zeroState who) (start-sound map store kept who e .0));
       power-on = λ s.
           unless-store (λ after. ChangesOnly map store after (λ r. r .kind ≡ 2)) _ s store _
           (unchanged map store _)
-          (λ e. powered-changes map store image (s .who) (power-sound map store kept s e .standing));
+          (λ e. powered-changes map store image s (power-sound map store kept s e .standing));
       step = λ s heard.
           unless-store (λ after. ChangesOnly map store after (λ r. writable r ≡ true)) _ s store _
           (unchanged map store _)
-          (λ e. changes map store image s heard (step-sound map store kept s (heard .frame) e) .writable-only);
+          (λ e. changes map store image s heard (step-sound map store kept s heard e) .writable-only);
     }
 
 pub one-value-changes : OneValueChanges
 unfolding stepOf
 one-value-changes map store image s heard no-reset =
     unless-store (λ after. (after ≡ store) ⊎ OneValue map store after) _ s store _ (inl refl)
-    (λ e. changes map store image s heard (step-sound map store (length image) s (heard .frame) e) .one no-reset)
+    (λ e. changes map store image s heard (step-sound map store (length image) s heard e) .one no-reset)
 
 pub calls-power-on : CallsPowerOn
 calls-power-on map store image =
     let accepted = calls-accepted map store image in
     record {
       start = λ who e.
-          powers-on map store image who (start-sound map store (length image) who e .0) _ (accepted .start who e);
+          powers-on map store image (withWho zeroState who) (start-sound map store (length image) who e .0)
+          who (named-who zeroState who) _ (accepted .start who e);
       power-on = λ s e.
-          powers-on map store image (s .who) (power-sound map store (length image) s e .standing) _
+          powers-on map store image s (power-sound map store (length image) s e .standing) (s .who) refl _
           (accepted .power-on s e);
     }
 
@@ -72,15 +76,18 @@ accepted-again map store image =
     record {
       start = λ who e.
           let k = start-sound map store kept who e in
-          rw (accepted .start who e) (sound-power map _ kept _ (powered-sound map store image who (k .0) (k .1)));
+          rw (accepted .start who e)
+          (sound-power map _ kept _
+          (powered-sound map store image (withWho zeroState who) (k .0) (rw (named-who zeroState who) (k .1))));
       power-on = λ s e.
           let k = power-sound map store kept s e in
           rw (accepted .power-on s e)
-          (sound-power map _ kept _ (powered-sound map store image (s .who) (k .standing) (k .rules .address)));
+          (sound-power map _ kept _ (powered-sound map store image s (k .standing) (k .rules .address)));
       step = λ s heard e.
-          let k = step-sound map store kept s (heard .frame) e in
+          let k = step-sound map store kept s heard e in
           rw (accepted .step s heard e) (sound-power map _ kept _ (frame-sound map store image s heard k));
-      next = λ s frame e l. sound-step map store kept s frame (power-sound map store kept s e) l;
+      next = λ s heard e l.
+          sound-step map store kept s heard (power-sound map store kept s e) (frame-passes map store s heard l);
     }
 
 module _ (map image : List ℕ) where
@@ -92,7 +99,7 @@ module _ (map image : List ℕ) where
   one-accepted store s e power-on i =
       (calls-reply map store image .power-on s ∙ e, accepted-again map store image .power-on s e)
   one-accepted store s e (hears heard) i =
-      let n = accepted-again map store image .next s (heard .frame) e (ltb-true (heard .frame) 16777216 i) in
+      let n = accepted-again map store image .next s heard e (ltb-true (heard .frame) 16777216 i) in
       (calls-reply map store image .step s heard ∙ n, accepted-again map store image .step s heard n)
 
   all-accepted : (store : List ℕ) (s : State) → powerNumber map store (length image) s ≡ 0 → (xs : List Input)

@@ -1,7 +1,7 @@
 -- What a frame and a power-on change of the store, and that 7 to 12 hold after them.
 -- Assumes nothing.
 use Prim.Native.Nat.{ℕ}
-use mathlib.Core.Path.{_≡_, refl, _∙_}
+use mathlib.Core.Path.{_≡_, refl, subst, _∙_}
 use mathlib.Core.Logic.{_⊎_, inl, inr, ⊎-elim}
 use mathlib.Core.Bool.{Bool, true}
 use mathlib.Core.List.{List}
@@ -33,6 +33,7 @@ use Rattle.hearing.specs.declared.rooms.Who.{Who}
 use Rattle.hearing.specs.declared.rooms.Heard.{Heard}
 use Rattle.rooms.specs.State.{poweredOn}
 use Rattle.rooms.specs.Rules.{addressHolds, waitingHolds}
+use Rattle.rooms.specs.Promises.{StatePowered}
 use Rattle.rooms.specs.Due.{dueOf}
 use Rattle.rooms.specs.Reply.{quiet}
 use Rattle.rooms.specs.declared.state.State.{State}
@@ -40,6 +41,8 @@ use Rattle.rooms.specs.declared.reply.Stepped.{Stepped}
 use Rattle.rooms.specs.declared.due.Due.{Due}
 use Rattle.rooms.specs.declared.due.Due.the-variants.{Nothing, Waits, Opens, Resets, Becomes, Loads, Answers}
 use Rattle.rooms.specs.declared.due.Due.the-variants.{Writes, Reads}
+use Rattle.rooms.proofs.Powered.{powered-who, powered-waiting, powered-door, powered-latch}
+use Rattle.rooms.proofs.Promises.{powered-on}
 use Rattle.unit.specs.Step.{hearing, written, done, frameOf, powerOf}
 use Rattle.unit.specs.Keeping.{OneValue, StorePowered, PowersOn}
 use Rattle.unit.proofs.Keeping.{shut-holds, heard-staged, frame-keeps}
@@ -169,9 +172,9 @@ module _ (map store image : List ℕ) (s : State) (heard : Heard) (S : Sound map
         rules = frame-keeps map store image s heard place (S .rules);
       }
 
-module _ (map store image : List ℕ) (who : Who) (S : Stands map store (length image)) where
+module _ (map store image : List ℕ) (s : State) (S : Stands map store (length image)) where
   abbrev powered : Outcome Stepped
-  powered = powerOf (recordsOf map) store image who
+  powered = powerOf (recordsOf map) store image s
 
   pub powered-changes : ChangesOnly map store (powered .store) (λ r. r .kind ≡ 2)
   unfolding powerOf chosen
@@ -195,35 +198,26 @@ module _ (map store image : List ℕ) (who : Who) (S : Stands map store (length 
         unmapped = powered-changes .unmapped;
       }
 
-  pub powered-sound : addressHolds (who .address) ≡ true
+  pub powered-sound : addressHolds (s .who .address) ≡ true
       → Sound map (powered .store) (length image) (powered .answer .state)
-  unfolding powerOf quiet poweredOn waitingHolds
+  unfolding powerOf quiet waitingHolds
   powered-sound e =
       record {
         standing = stands-after map store (powered .store) (length image) _ powered-changes S;
         rules = record {
-          address = e;
-          waiting = refl;
-          door = shut-holds (recordsOf map) _ _ refl;
-          latch = none-latched-holds (recordsOf map);
+          address = rw (powered-who s) e;
+          waiting = rw (powered-waiting s);
+          door = shut-holds (recordsOf map) _ _ (powered-door s);
+          latch = rw (powered-latch s) (none-latched-holds (recordsOf map));
         };
       }
 
-  pub powers-on : (o : Outcome Stepped) → o ≡ powered → PowersOn map store image who o
-  unfolding powerOf quiet poweredOn
-  powers-on o e =
+  pub powers-on : (who : Who) → s .who ≡ who → (o : Outcome Stepped) → o ≡ powered → PowersOn map store image s who o
+  unfolding powerOf quiet
+  powers-on who w o e =
       rw e (record {
         acts = refl;
         unanswered = refl;
-        state-is = record {
-          who-is = refl;
-          dtr0 = refl;
-          dtr1 = refl;
-          dtr2 = refl;
-          none-waiting = refl;
-          not-enabled = refl;
-          none-staged = refl;
-          none-latched = refl;
-        };
+        state-is = subst (λ (x : Who). StatePowered x (poweredOn s)) w (powered-on s);
         store-is = powered-store;
       })

@@ -1,26 +1,18 @@
--- The laws by which a history knows the unit: what an accepted call was handed, and what a frame and a power-on leave
--- in
--- each room, by what the frame means.
+-- The laws by which a history knows the unit: what an accepted call was handed, and what a frame and a power-on
+-- leave in each room, by what the frame means.
 -- Assumes nothing.
-use mathlib.Core.Path.{_≡_, refl}
+use mathlib.Core.Path.{_≡_, refl, sym, _∙_}
 use mathlib.Core.Bool.{Bool, true, false, _&&_, _||_}
-use mathlib.Core.List.{List, [], _∷_, _++_}
+use mathlib.Core.List.{List}
 use Prim.Native.Nat.{ℕ, _+_, _-_}
 use lib.Bits.{bitOr, bitAnd}
 use lib.Dec.{ltb, eqb}
 use lib.ListN.{length}
-use borrow.Author.Tests.{eqb-true, eqb-false}
 use Rattle.laws.specs.Choice.{if_then_else_}
-use Rattle.laws.specs.Lists.{every}
-use Rattle.laws.specs.Numbers.{Test, test}
-use Rattle.laws.specs.Outcome.{Outcome, leaves}
-use Rattle.laws.proofs.Tests.{both, and-of}
-use Rattle.laws.proofs.Numbers.{none-exactly-if}
+use Rattle.laws.specs.Outcome.{Outcome}
 use Rattle.banks.specs.Map.{recordsOf, mapped}
-use Rattle.banks.specs.Rules.{checkTests, checkNumber}
 use Rattle.banks.specs.declared.record.Record.{Record}
 use Rattle.banks.specs.Facts.{Stands}
-use Rattle.banks.proofs.Standing.{stands}
 use Rattle.memory.specs.Staged.{writeOf}
 use Rattle.memory.specs.Rooms.{stagedHolds}
 use Rattle.memory.specs.Filled.{filledOf}
@@ -39,104 +31,51 @@ use Rattle.hearing.specs.declared.meaning.Twice.the-variants.{AddToDeviceGroups
 use Rattle.hearing.specs.declared.meaning.Meaning.{Meaning}
 use Rattle.hearing.specs.declared.meaning.Meaning.the-variants.{Foreign, NotObeyed, AtOnce, NeedsPair}
 use Rattle.rooms.specs.State.{withWho, withRegisters, withWaiting, withDoor, withLatch, zeroRegisters, shutDoor}
-use Rattle.rooms.specs.State.{openDoor, poweredOn, zeroState}
-use Rattle.rooms.specs.Rules.{addressHolds, waitingHolds, doorHolds, stateHolds}
+use Rattle.rooms.specs.State.{openDoor, zeroState}
 use Rattle.rooms.specs.Due.{withDtr, groupWord, inGroups, shortDue, writeDue, readDue, onceDue, pairDue, dueBy, dueOf}
-use Rattle.rooms.specs.Reply.{quiet, answering, refusing}
+use Rattle.rooms.specs.Reply.{quiet, answering}
 use Rattle.rooms.specs.declared.state.Registers.{Registers}
 use Rattle.rooms.specs.declared.state.Door.{Door}
 use Rattle.rooms.specs.declared.state.State.{State}
 use Rattle.rooms.specs.declared.reply.Stepped.{Stepped}
 use Rattle.rooms.specs.declared.due.Due.the-variants.{Nothing, Becomes, Answers, Reads}
-use Rattle.numbers.specs.Numbers.{stepTests, stepNumber, powerTests, powerNumber, startTests, startNumber}
+use Rattle.rooms.proofs.Powered.{powered-who, powered-registers, powered-waiting, powered-door}
 use Rattle.unit.specs.Step.{hearing, raised, written, readBy, done, frameOf, powerOf, stepOf, powerOnOf, startOf}
-use Rattle.unit.specs.Step.{unless}
+use Rattle.unit.proofs.Numbers.{calls-accepted, calls-reply}
+use Rattle.unit.proofs.Keeping.{door-staged}
+use Rattle.unit.proofs.Sound.{Sound, start-sound, power-sound, step-sound}
 
 -- ---- an accepted call
-
--- number 0: no test failed, and the outcome is that of the internal step
-go-on : (number : ℕ) (s : State) (store : List ℕ) (o : Outcome Stepped)
-    → unless number s store o .answer .reply .number ≡ 0
-    → (number ≡ 0) × (unless number s store o ≡ o)
-unfolding refusing
-go-on number s store o = go (eqb number 0) refl
-  where
-    go : (b : Bool) → eqb number 0 ≡ b → (if b then o else leaves (refusing s number) store) .answer .reply .number ≡ 0
-        → (number ≡ 0) × ((if b then o else leaves (refusing s number) store) ≡ o)
-    go true b e = (eqb-true number 0 b, refl)
-    go false b e = absurd (eqb-false number 0 b e)
 
 -- map, store and image that passed the tests, and staged bytes that keep their rule
 pub record Ready (map store image : List ℕ) (s : State) : Type 0 where
   pub stands : Stands map store (length image)
   pub staged-holds : stagedHolds (recordsOf map) store (s .door .staged) ≡ true
 
--- both of two lists of tests pass
-every-both : (xs ys : List Test) → every (λ t. t .passes) (xs ++ ys) ≡ true
-    → (every (λ t. t .passes) xs ≡ true) × (every (λ t. t .passes) ys ≡ true)
-every-both [] ys e = (refl, e)
-every-both (x ∷ xs) ys e =
-    let p = both (x .passes) (every (λ t. t .passes) (xs ++ ys)) e in
-    let q = every-both xs ys (p .1) in
-    (and-of (x .passes) (every (λ t. t .passes) xs) (p .0) (q .0), q .1)
+ready : (map store image : List ℕ) (s : State) → Sound map store (length image) s → Ready map store image s
+ready map store image s h =
+    record { stands = h .standing; staged-holds = door-staged (recordsOf map) store s (h .rules .door) }
 
-checks-stand : (map store image : List ℕ) → every (λ t. t .passes) (checkTests map store (length image)) ≡ true
-    → Stands map store (length image)
-unfolding checkNumber
-checks-stand map store image e =
-    stands map store (length image) (none-exactly-if (checkTests map store (length image)) refl .1 e)
-
-staged-of : (rs : List Record) (store : List ℕ) (s : State) → stateHolds rs store s ≡ true
-    → stagedHolds rs store (s .door .staged) ≡ true
-unfolding stateHolds doorHolds
-staged-of rs store s e =
-    let p = both (waitingHolds s) _ (both (addressHolds (s .who .address)) _ e .1) in
-    both (s .door .enabled || eqb (s .door .staged .count) 0) (stagedHolds rs store (s .door .staged))
-    (both (doorHolds rs store s) _ (p .1) .0) .1
-
+-- number 0: no test failed, and the outcome is that of the internal step
 module _ (map store image : List ℕ) where
   pub step-accepted : (s : State) (x : Heard) → stepOf map store image s x .answer .reply .number ≡ 0
       → Ready map store image s × (stepOf map store image s x ≡ frameOf (recordsOf map) store image s x)
-  unfolding stepOf stepNumber
   step-accepted s x e =
-      let g = go-on (stepNumber map store (length image) s (x .frame)) s store
-      (frameOf (recordsOf map) store image s x) e in
-      let p = none-exactly-if (stepTests map store (length image) s (x .frame)) refl .0 (g .0) in
-      let t : List Test = test 12 (stateHolds (recordsOf map) store s) ∷ test 1 (ltb (x .frame) 16777216) ∷ [] in
-      let q = every-both (checkTests map store (length image)) t p in (
-        record {
-          stands = checks-stand map store image (q .0);
-          staged-holds = staged-of (recordsOf map) store s (both (stateHolds (recordsOf map) store s) _ (q .1) .0);
-        },
-        g .1,
-      )
+      let n = sym (calls-reply map store image .step s x) ∙ e in
+      (ready map store image s (step-sound map store (length image) s x n), calls-accepted map store image .step s x n)
 
   pub power-accepted : (s : State) → powerOnOf map store image s .answer .reply .number ≡ 0
-      → Ready map store image s × (powerOnOf map store image s ≡ powerOf (recordsOf map) store image (s .who))
-  unfolding powerOnOf powerNumber
+      → Ready map store image s × (powerOnOf map store image s ≡ powerOf (recordsOf map) store image s)
   power-accepted s e =
-      let g = go-on (powerNumber map store (length image) s) s store (powerOf (recordsOf map) store image (s .who)) e in
-      let p = none-exactly-if (powerTests map store (length image) s) refl .0 (g .0) in
-      let q = every-both (checkTests map store (length image))
-      (test 12 (stateHolds (recordsOf map) store s) ∷ []) p in (
-        record {
-          stands = checks-stand map store image (q .0);
-          staged-holds = staged-of (recordsOf map) store s (both (stateHolds (recordsOf map) store s) _ (q .1) .0);
-        },
-        g .1,
-      )
+      let n = sym (calls-reply map store image .power-on s) ∙ e in
+      (ready map store image s (power-sound map store (length image) s n), calls-accepted map store image .power-on s n)
 
   pub start-accepted : (who : Who) → startOf map store image who .answer .reply .number ≡ 0
-      → Stands map store (length image) × (startOf map store image who ≡ powerOf (recordsOf map) store image who)
-  unfolding startOf startNumber
+      → Stands map store (length image)
+      × (startOf map store image who ≡ powerOf (recordsOf map) store image (withWho zeroState who))
   start-accepted who e =
-      let g = go-on (startNumber map store (length image) who) zeroState store
-      (powerOf (recordsOf map) store image who) e in
-      let p = none-exactly-if (startTests map store (length image) who) refl .0 (g .0) in (
-        checks-stand map store image (every-both (checkTests map store (length image))
-            (test 6 (addressHolds (who .address)) ∷ []) p .0),
-        g .1,
-      )
+      let n = sym (calls-reply map store image .start who) ∙ e in
+      (start-sound map store (length image) who n .0, calls-accepted map store image .start who n)
 
 -- ---- what a call leaves in each room but the latch, and in the store
 
@@ -157,9 +96,9 @@ roomsOf o =
       store = o .store;
     }
 
--- power-on and start: DTRs 0, nothing waiting, enabled or staged
-pub power-rooms : (rs : List Record) (store image : List ℕ) (who : Who)
-    → roomsOf (powerOf rs store image who)
+-- power-on and start: DTRs 0, nothing waiting, enabled or staged; address and groups stay
+pub power-rooms : (rs : List Record) (store image : List ℕ) (s : State) (who : Who) → s .who ≡ who
+    → roomsOf (powerOf rs store image s)
     ≡ record {
       who = who;
       registers = zeroRegisters;
@@ -168,8 +107,9 @@ pub power-rooms : (rs : List Record) (store image : List ℕ) (who : Who)
       store =
           filledOf rs store image PowerOn;
     }
-unfolding powerOf quiet poweredOn
-power-rooms rs store image who = refl
+unfolding powerOf quiet
+power-rooms rs store image s who e =
+    rw (powered-who s, powered-registers s, powered-waiting s, powered-door s, e)
 
 -- DTR0 after a location that was used
 abbrev pub registersPast : Registers → ℕ → Registers

@@ -61,7 +61,7 @@ open-holds : (rs : List Record) (store : List ℕ) (s : State) → s .door ≡ o
 unfolding doorHolds
 open-holds rs store s e = rw e (none-staged-holds rs store)
 
-door-staged : (rs : List Record) (store : List ℕ) (s : State) → doorHolds rs store s ≡ true
+pub door-staged : (rs : List Record) (store : List ℕ) (s : State) → doorHolds rs store s ≡ true
     → stagedHolds rs store (s .door .staged) ≡ true
 unfolding doorHolds
 door-staged rs store s e = and-right (s .door .enabled || eqb (s .door .staged .count) 0) _ e

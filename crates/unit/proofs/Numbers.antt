@@ -12,7 +12,7 @@ use Rattle.banks.specs.Map.{recordsOf}
 use Rattle.banks.specs.declared.record.Record.{Record}
 use Rattle.hearing.specs.declared.rooms.Heard.{Heard}
 use Rattle.rooms.specs.Reply.{quiet, answering, refusing}
-use Rattle.rooms.specs.State.{zeroState}
+use Rattle.rooms.specs.State.{withWho, zeroState}
 use Rattle.rooms.specs.Due.{dueOf}
 use Rattle.rooms.specs.declared.state.State.{State}
 use Rattle.rooms.specs.declared.reply.Stepped.{Stepped}
@@ -67,8 +67,8 @@ pub calls-accepted : CallsAccepted
 unfolding startOf powerOnOf stepOf
 calls-accepted map store image =
     record {
-      start = λ who e. accepting zeroState store (powerOf (recordsOf map) store image who) _ e;
-      power-on = λ s e. accepting s store (powerOf (recordsOf map) store image (s .who)) _ e;
+      start = λ who e. accepting zeroState store (powerOf (recordsOf map) store image (withWho zeroState who)) _ e;
+      power-on = λ s e. accepting s store (powerOf (recordsOf map) store image s) _ e;
       step = λ s heard e. accepting s store (frameOf (recordsOf map) store image s heard) _ e;
     }
 
@@ -76,8 +76,8 @@ pub calls-reply : CallsReply
 unfolding startOf powerOnOf stepOf powerOf quiet
 calls-reply map store image =
     record {
-      start = λ who. unless-number zeroState store (powerOf (recordsOf map) store image who) _ refl;
-      power-on = λ s. unless-number s store (powerOf (recordsOf map) store image (s .who)) _ refl;
+      start = λ who. unless-number zeroState store (powerOf (recordsOf map) store image (withWho zeroState who)) _ refl;
+      power-on = λ s. unless-number s store (powerOf (recordsOf map) store image s) _ refl;
       step = λ s heard.
           unless-number s store (frameOf (recordsOf map) store image s heard) _
           (frame-number (recordsOf map) store image s heard);

@@ -1,11 +1,10 @@
 -- What number 0 says of map, store and state: 7 to 11 stand, and the rules of a state hold; and back.
 -- Assumes nothing.
-use Prim.Native.Nat.{ℕ, zero, suc, _+_, _<_}
+use Prim.Native.Nat.{ℕ, zero, suc}
 use mathlib.Core.Path.{_≡_, refl, sym, _∙_}
 use mathlib.Core.Bool.{true}
 use mathlib.Core.List.{List, _++_}
 use native.Mathlib.Omega.{arith}
-use borrow.Author.Tests.{lt-ltb}
 use Rattle.laws.specs.Lists.{every}
 use Rattle.laws.specs.Numbers.{Test, firstFailing, numbered}
 use Rattle.laws.proofs.Sides.{and-left}
@@ -15,11 +14,13 @@ use Rattle.banks.specs.Map.{recordsOf}
 use Rattle.banks.specs.Rules.{checkTests, checkNumber}
 use Rattle.banks.specs.Facts.{Stands}
 use Rattle.banks.proofs.Standing.{check-stands}
+use Rattle.hearing.specs.declared.rooms.Heard.{Heard}
 use Rattle.hearing.specs.declared.rooms.Who.{Who}
 use Rattle.rooms.specs.Rules.{addressHolds, stateHolds}
 use Rattle.rooms.specs.declared.state.State.{State}
-use Rattle.numbers.specs.Numbers.{startNumber, powerNumber, stepNumber}
-use Rattle.numbers.proofs.Numbers.{startsBehind, powersBehind, stepsBehind}
+use Rattle.numbers.specs.Numbers.{startNumber, powerNumber, heardNumber, stepNumber}
+use Rattle.numbers.proofs.Numbers.{startsBehind, powersBehind, tests-in-order}
+use Rattle.numbers.proofs.Behind.{step-passed}
 use Rattle.unit.proofs.Keeping.{RulesHold, rules-hold, state-holds}
 
 first-none : (ts us : List Test) → firstFailing (ts ++ us) ≡ 0 → firstFailing ts ≡ 0
@@ -38,7 +39,7 @@ pub record Sound (map store : List ℕ) (kept : ℕ) (s : State) : Type 0 where
   pub rules : RulesHold (recordsOf map) store s
 
 module _ (map store : List ℕ) (kept : ℕ) where
-  -- what the tests of a state and a frame say, behind 7 to 11
+  -- what the tests behind 7 to 11 say
   parted : (us : List Test) → numbered us ≡ true → firstFailing (checkTests map store kept ++ us) ≡ 0
       → Stands map store kept × (every (λ t. t .passes) us ≡ true)
   unfolding checkNumber
@@ -66,12 +67,8 @@ module _ (map store : List ℕ) (kept : ℕ) where
       let p = parted (powersBehind map store s) refl e in
       record { standing = p .0; rules = rules-hold rs store s (and-left (stateHolds rs store s) true (p .1)) }
 
-  pub step-sound : (s : State) (frame : ℕ) → stepNumber map store kept s frame ≡ 0 → Sound map store kept s
-  unfolding stepNumber
-  step-sound s frame e =
-      let rs = recordsOf map in
-      let p = parted (stepsBehind map store s frame) refl e in
-      record { standing = p .0; rules = rules-hold rs store s (and-left (stateHolds rs store s) _ (p .1)) }
+  pub step-sound : (s : State) (heard : Heard) → stepNumber map store kept s heard ≡ 0 → Sound map store kept s
+  step-sound s heard e = power-sound s (step-passed map store kept s heard e .0)
 
   pub sound-power : (s : State) → Sound map store kept s → powerNumber map store kept s ≡ 0
   unfolding powerNumber
@@ -79,9 +76,6 @@ module _ (map store : List ℕ) (kept : ℕ) where
       joined (powersBehind map store s) refl (h .standing)
       (rw (state-holds (recordsOf map) store s (h .rules)))
 
-  pub sound-step : (s : State) (frame : ℕ) → Sound map store kept s → frame < 16777216
-      → stepNumber map store kept s frame ≡ 0
-  unfolding stepNumber
-  sound-step s frame h l =
-      joined (stepsBehind map store s frame) refl (h .standing)
-      (rw (state-holds (recordsOf map) store s (h .rules), lt-ltb frame 16777216 l))
+  pub sound-step : (s : State) (heard : Heard) → Sound map store kept s → heardNumber map store s heard ≡ 0
+      → stepNumber map store kept s heard ≡ 0
+  sound-step s heard h e = tests-in-order map store kept .step-heard s heard (sound-power s h) ∙ e

@@ -7,7 +7,7 @@ use mathlib.Core.Bool.{true}
 use mathlib.Core.List.{List, [], _∷_, _++_, map}
 use Rattle.laws.specs.Outcome.{Outcome}
 use Rattle.composing.specs.Bench.{Case, CaseHolds, sheet as framesSheet}
-use Rattle.hearing.specs.Pairs.{passed}
+use Rattle.hearing.specs.Pairs.{heardAt, passed}
 use Rattle.hearing.specs.declared.rooms.Who.{Who}
 use Rattle.rooms.specs.declared.reply.Stepped.{Stepped}
 use Rattle.unit.specs.Step.{startOf}
@@ -36,7 +36,7 @@ abbrev pub benchRun : List Input → Run
 benchRun = runOf benchMap benchStore benchImage benchWho
 
 abbrev pub at : ℕ → ℕ → Input
-at clock frame = hears (record { clock = clock; frame = frame })
+at clock frame = hears (heardAt clock frame)
 
 -- ENABLE to short 5 at two clocks, and the frames after it but the last; the sheet prints no clocks for these
 abbrev pub enabledBy : ℕ → ℕ → List Input

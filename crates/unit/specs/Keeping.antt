@@ -18,6 +18,7 @@ use Rattle.banks.specs.declared.record.Record.{Record}
 use Rattle.memory.specs.Promises.{ChangesOnly}
 use Rattle.hearing.specs.declared.rooms.Who.{Who}
 use Rattle.hearing.specs.declared.rooms.Heard.{Heard}
+use Rattle.rooms.specs.State.{withWho, zeroState}
 use Rattle.rooms.specs.Due.{dueOf}
 use Rattle.rooms.specs.Promises.{StatePowered}
 use Rattle.rooms.specs.declared.state.State.{State}
@@ -68,8 +69,9 @@ pub record StorePowered (map store image after : List ℕ) : Type 0 where
   pub unmapped : (j : ℕ) → ((r : Record) → Member r map → (j < r .offset) ⊎ (placesEnd r ≤ j))
       → getD after j 0 ≡ getD store j 0
 
-pub record PowersOn (map store image : List ℕ) (who : Who) (o : Outcome Stepped) : Type 0 where
-  pub acts : o ≡ powerOf (recordsOf map) store image who
+-- an outcome that is a power-on of a state, with this address and these groups
+pub record PowersOn (map store image : List ℕ) (s : State) (who : Who) (o : Outcome Stepped) : Type 0 where
+  pub acts : o ≡ powerOf (recordsOf map) store image s
   pub unanswered : o .answer .reply .answered ≡ false
   pub state-is : StatePowered who (o .answer .state)
   pub store-is : StorePowered map store image (o .store)
@@ -77,9 +79,9 @@ pub record PowersOn (map store image : List ℕ) (who : Who) (o : Outcome Steppe
 -- start takes address and groups and acts as a power-on; a later power-on does the same and keeps address and groups
 pub record Powered (map store image : List ℕ) : Type 0 where
   pub start : (who : Who) → startNumber map store (length image) who ≡ 0
-      → PowersOn map store image who (startOf map store image who)
+      → PowersOn map store image (withWho zeroState who) who (startOf map store image who)
   pub power-on : (s : State) → powerNumber map store (length image) s ≡ 0
-      → PowersOn map store image (s .who) (powerOnOf map store image s)
+      → PowersOn map store image s (s .who) (powerOnOf map store image s)
 
 abbrev pub CallsPowerOn : Type 0
 CallsPowerOn = (map store image : List ℕ) → Powered map store image
@@ -95,11 +97,11 @@ pub record AcceptedAgain (map store image : List ℕ) : Type 0 where
       → PassesAgain map image (startOf map store image who)
   pub power-on : (s : State) → powerNumber map store (length image) s ≡ 0
       → PassesAgain map image (powerOnOf map store image s)
-  pub step : (s : State) (heard : Heard) → stepNumber map store (length image) s (heard .frame) ≡ 0
+  pub step : (s : State) (heard : Heard) → stepNumber map store (length image) s heard ≡ 0
       → PassesAgain map image (stepOf map store image s heard)
   -- so the next frame is accepted if it is a frame: a number below 16,777,216
-  pub next : (s : State) (frame : ℕ) → powerNumber map store (length image) s ≡ 0 → frame < 16777216
-      → stepNumber map store (length image) s frame ≡ 0
+  pub next : (s : State) (heard : Heard) → powerNumber map store (length image) s ≡ 0 → heard .frame < 16777216
+      → stepNumber map store (length image) s heard ≡ 0
 
 abbrev pub CallsAcceptedAgain : Type 0
 CallsAcceptedAgain = (map store image : List ℕ) → AcceptedAgain map store image

@@ -11,7 +11,7 @@ use Rattle.laws.specs.Outcome.{Outcome, Gives}
 use Rattle.banks.specs.Map.{recordsOf}
 use Rattle.hearing.specs.declared.rooms.Who.{Who}
 use Rattle.hearing.specs.declared.rooms.Heard.{Heard}
-use Rattle.rooms.specs.State.{zeroState}
+use Rattle.rooms.specs.State.{withWho, zeroState}
 use Rattle.rooms.specs.declared.state.State.{State}
 use Rattle.rooms.specs.declared.reply.Stepped.{Stepped}
 use Rattle.numbers.specs.Numbers.{startNumber, powerNumber, stepNumber}
@@ -36,7 +36,7 @@ pub record Replies (map store image : List ℕ) : Type 0 where
   pub start : (who : Who) → numberOf (startOf map store image who) ≡ startNumber map store (length image) who
   pub power-on : (s : State) → numberOf (powerOnOf map store image s) ≡ powerNumber map store (length image) s
   pub step : (s : State) (heard : Heard)
-      → numberOf (stepOf map store image s heard) ≡ stepNumber map store (length image) s (heard .frame)
+      → numberOf (stepOf map store image s heard) ≡ stepNumber map store (length image) s heard
 
 -- a refusal returns the number, and no answer; state and store stay, byte for byte
 pub record Refuses (o : Outcome Stepped) (number : ℕ) (s : State) (store : List ℕ) : Type 0 where
@@ -52,16 +52,16 @@ pub record Refused (map store image : List ℕ) (n : ℕ) : Type 0 where
       → Refuses (startOf map store image who) n zeroState store
   pub power-on : (s : State) → powerNumber map store (length image) s ≡ n
       → Refuses (powerOnOf map store image s) n s store
-  pub step : (s : State) (heard : Heard) → stepNumber map store (length image) s (heard .frame) ≡ n
+  pub step : (s : State) (heard : Heard) → stepNumber map store (length image) s heard ≡ n
       → Refuses (stepOf map store image s heard) n s store
 
 -- number 0: the call does what its definition for an accepted map, store and state says
 pub record Accepted (map store image : List ℕ) : Type 0 where
   pub start : (who : Who) → startNumber map store (length image) who ≡ 0
-      → startOf map store image who ≡ powerOf (recordsOf map) store image who
+      → startOf map store image who ≡ powerOf (recordsOf map) store image (withWho zeroState who)
   pub power-on : (s : State) → powerNumber map store (length image) s ≡ 0
-      → powerOnOf map store image s ≡ powerOf (recordsOf map) store image (s .who)
-  pub step : (s : State) (heard : Heard) → stepNumber map store (length image) s (heard .frame) ≡ 0
+      → powerOnOf map store image s ≡ powerOf (recordsOf map) store image s
+  pub step : (s : State) (heard : Heard) → stepNumber map store (length image) s heard ≡ 0
       → stepOf map store image s heard ≡ frameOf (recordsOf map) store image s heard
 
 abbrev pub CallsSettled : Type 0

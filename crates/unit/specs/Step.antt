@@ -24,7 +24,6 @@ use Rattle.rooms.specs.Reply.{quiet, answering, refusing}
 use Rattle.rooms.specs.State.{poweredOn, zeroState}
 use Rattle.rooms.specs.Due.{withDtr, dueOf}
 use Rattle.rooms.specs.declared.state.State.{State}
-use Rattle.rooms.specs.declared.reply.Reply.{Reply}
 use Rattle.rooms.specs.declared.reply.Stepped.{Stepped}
 use Rattle.rooms.specs.declared.due.Due.{Due}
 use Rattle.rooms.specs.declared.due.Due.the-variants.{Nothing, Waits, Opens, Resets, Becomes, Loads, Answers}
@@ -72,8 +71,8 @@ frameOf rs store image s heard =
     done rs store image (hearing s (closes (meaningOf (s .who) (heard .frame)))) heard (dueOf rs s heard)
 
 -- a power-on keeps address and groups: lock bytes 0xFF, other RAM-RW values from the reset image
-unfoldable pub powerOf : List Record → List ℕ → List ℕ → Who → Outcome Stepped
-powerOf rs store image who = leaves (quiet (poweredOn who)) (filledOf rs store image PowerOn)
+unfoldable pub powerOf : List Record → List ℕ → List ℕ → State → Outcome Stepped
+powerOf rs store image s = leaves (quiet (poweredOn s)) (filledOf rs store image PowerOn)
 
 -- a refusal returns the number; state and store stay
 abbrev pub unless : ℕ → State → List ℕ → Outcome Stepped → Outcome Stepped
@@ -81,13 +80,14 @@ unless number s store outcome = if eqb number 0 then outcome else leaves (refusi
 
 unfoldable pub stepOf : List ℕ → List ℕ → List ℕ → State → Heard → Outcome Stepped
 stepOf map store image s heard =
-    unless (stepNumber map store (length image) s (heard .frame)) s store (frameOf (recordsOf map) store image s heard)
+    unless (stepNumber map store (length image) s heard) s store (frameOf (recordsOf map) store image s heard)
 
 unfoldable pub powerOnOf : List ℕ → List ℕ → List ℕ → State → Outcome Stepped
 powerOnOf map store image s =
-    unless (powerNumber map store (length image) s) s store (powerOf (recordsOf map) store image (s .who))
+    unless (powerNumber map store (length image) s) s store (powerOf (recordsOf map) store image s)
 
--- start acts as a power-on; a refused start's state is all zeros
+-- start takes address and groups and acts as a power-on; a refused start's state is all zeros
 unfoldable pub startOf : List ℕ → List ℕ → List ℕ → Who → Outcome Stepped
 startOf map store image who =
-    unless (startNumber map store (length image) who) zeroState store (powerOf (recordsOf map) store image who)
+    unless (startNumber map store (length image) who) zeroState store
+    (powerOf (recordsOf map) store image (withWho zeroState who))

@@ -21,6 +21,8 @@ use rooms::due_by;
 use rooms::powered_on;
 use rooms::quiet;
 use rooms::refusing;
+use rooms::with_who;
+use rooms::zero_state;
 
 // Internal: a frame step on a map, store and state that keep the rules. Whoever runs many frames checks once, and then
 // calls this. A reserved frame goes straight to clearing the waiting one.
@@ -39,18 +41,18 @@ pub fn frame_step(map: &[u8], store: &mut [u8], image: &[u8], state: State, hear
 }
 
 // Internal: a power-on on a map and store that keep the rules.
-pub fn power_step(map: &[u8], store: &mut [u8], image: &[u8], who: Who) -> Stepped
+pub fn power_step(map: &[u8], store: &mut [u8], image: &[u8], state: State) -> Stepped
     requires { ⌜ (placed (now map) (length (now store)) ≡ true) × (length (now image) ≡ length (now store)) ⌝ }
-    ensures { λ r. ⌜ Gives r (now (store .exit)) (powerOf (recordsOf (now (map .entry))) (now (store .entry)) (now (image .entry)) who) ⌝ }
+    ensures { λ r. ⌜ Gives r (now (store .exit)) (powerOf (recordsOf (now (map .entry))) (now (store .entry)) (now (image .entry)) state) ⌝ }
 {
     memory::fill_store(map, store, image, Filling::PowerOn);
-    quiet(powered_on(who))
+    quiet(powered_on(state))
 }
 
 pub fn step(map: &[u8], store: &mut [u8], image: &[u8], state: State, heard: Heard) -> Stepped
     ensures { λ r. ⌜ Gives r (now (store .exit)) (stepOf (now (map .entry)) (now (store .entry)) (now (image .entry)) state heard) ⌝ }
 {
-    let number = step_number(map, store, image, state, heard.frame);
+    let number = step_number(map, store, image, state, heard);
     if number != 0 {
         return refusing(state, number);
     }
@@ -65,21 +67,16 @@ pub fn power_on(map: &[u8], store: &mut [u8], image: &[u8], state: State) -> Ste
     if number != 0 {
         return refusing(state, number);
     }
-    let who = state.who;
-    power_step(map, store, image, who)
+    power_step(map, store, image, state)
 }
 
-// A refused start's state is all zeros.
+// Address and groups as given, then as a power-on; a refused start's state is all zeros.
 pub fn start(map: &[u8], store: &mut [u8], image: &[u8], who: Who) -> Stepped
     ensures { λ r. ⌜ Gives r (now (store .exit)) (startOf (now (map .entry)) (now (store .entry)) (now (image .entry)) who) ⌝ }
 {
     let number = start_number(map, store, image, who);
     if number != 0 {
-        let nobody = Who {
-            address: 0,
-            groups: 0,
-        };
-        return refusing(powered_on(nobody), number);
+        return refusing(zero_state(), number);
     }
-    power_step(map, store, image, who)
+    power_step(map, store, image, with_who(zero_state(), who))
 }
