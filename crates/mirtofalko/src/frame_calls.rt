@@ -1,27 +1,13 @@
 // The calls on frames alone.
 ghost use mathlib.Core.Path.{_≡_};
-ghost use mathlib.Core.Bool.{true};
-ghost use Rattle.frames.specs.Values.{writingWord};
-ghost use Rattle.mirtofalko.specs.Answers.{outOfRange, fieldsHeld, Held};
-ghost use Rattle.mirtofalko.specs.Answers.{readAnswer, writeAnswer, eventAnswer, powerAnswer};
-use crate::answers::writing_word;
-use composing::Source;
-use frames::Reading;
-use frames::Writing;
+ghost use Rattle.faces.specs.Answers.{readAnswer, writeAnswer, eventAnswer, powerAnswer};
 
 // The message word of a frame.
 #[no_mangle]
 pub extern "C" fn mf_read(frame: u32) -> u64
     ensures { λ r. ⌜ r ≡ readAnswer frame ⌝ }
 {
-    words::word_of(frames::read(frame))
-}
-
-// 6: out of range.
-fn out_of_range() -> u32
-    ensures { λ r. ⌜ r ≡ writingWord outOfRange ⌝ }
-{
-    writing_word(Writing::Refused(6))
+    faces::read_face(frame)
 }
 
 // The frame of a message word.
@@ -29,23 +15,7 @@ fn out_of_range() -> u32
 pub extern "C" fn mf_write(word: u64) -> u32
     ensures { λ r. ⌜ r ≡ writeAnswer word ⌝ }
 {
-    let Reading::Got(message) = words::message_of(word) else {
-        return out_of_range();
-    };
-    writing_word(frames::write(message))
-}
-
-// Each field of a source fits its type.
-fn is_held(sort: u32, number: u32, primary: u32, short: u32, information: u32, scheme: u32) -> bool
-    ensures same { λ r. ⌜ r ≡ fieldsHeld sort number primary short information scheme ⌝ }
-    ensures facts { λ r. ⌜ (r ≡ true → Held sort number primary short information scheme) ⌝ }
-{
-    let bytes = (sort <= 255)
-        & (number <= 255)
-        & (primary <= 255)
-        & (short <= 255)
-        & (scheme <= 255);
-    bytes & (information <= 65535)
+    faces::write_face(word)
 }
 
 // The frame of an event. The fields are wider than their ranges, so that none is cut to fit.
@@ -61,19 +31,7 @@ pub extern "C" fn mf_compose_event(
 ) -> u32
     ensures { λ r. ⌜ r ≡ eventAnswer sort number primary short groups information scheme ⌝ }
 {
-    if !is_held(sort, number, primary, short, information, scheme) {
-        return out_of_range();
-    }
-    let source = Source {
-        sort: sort as u8,
-        number: number as u8,
-        primary: primary as u8,
-        short: short as u8,
-        groups: groups,
-        information: information as u16,
-        scheme: scheme as u8,
-    };
-    writing_word(composing::compose_event(source))
+    faces::compose_event_face(sort, number, primary, short, groups, information, scheme)
 }
 
 // The frame of a power event.
@@ -81,8 +39,5 @@ pub extern "C" fn mf_compose_event(
 pub extern "C" fn mf_compose_power(short: u32, groups: u32) -> u32
     ensures { λ r. ⌜ r ≡ powerAnswer short groups ⌝ }
 {
-    if short > 255 {
-        return out_of_range();
-    }
-    writing_word(composing::compose_power(short as u8, groups))
+    faces::compose_power_face(short, groups)
 }

@@ -1,5 +1,5 @@
-// The face to C: the public calls on numbers and byte slices, and a state as 96 bytes.
-mod answers; // an answer as one number
+// The face to C: each call forwards to the call of `faces` that does its work, since an archive exports only its own
+// crate's functions.
 mod unit_calls; // the calls of the unit
 mod frame_calls; // the calls on frames alone
 

@@ -1,28 +1,17 @@
 // The calls of the unit: on a map, a store, a reset image and a state of 96 bytes.
 ghost use mathlib.Core.Path.{_≡_};
-ghost use mathlib.Core.Bool.{false};
 ghost use lib.ListN.{length};
-ghost use Rattle.rooms.specs.Rules.{addressHolds};
-ghost use Rattle.tracing.specs.Entry.{entries};
+ghost use Rattle.entries.specs.Entry.{entries};
 ghost use Rattle.tracing.specs.Run.{roomFor};
-ghost use Rattle.mirtofalko.specs.Answers.{checkAnswer, lookAnswer};
-ghost use Rattle.mirtofalko.specs.Face.{shapeNumber, startFace, frameFace, powerOnFace, Faces, runFace, RunFaces};
-use crate::answers::look_word;
-use crate::answers::refusal_word;
-use crate::answers::reply_word;
-use hearing::Heard;
-use hearing::Who;
-use packing::pack;
-use packing::shape_holds;
-use packing::unpack;
-use rooms::State;
+ghost use Rattle.faces.specs.Answers.{checkAnswer, lookAnswer};
+ghost use Rattle.faces.specs.Face.{startFace, frameFace, powerOnFace, Faces, runFace, RunFaces};
 
 // The number of map, store and reset image: 7 to 11, or 0.
 #[no_mangle]
 pub extern "C" fn mf_check(map: &[u8], store: &[u8], image: &[u8]) -> u32
     ensures { λ r. ⌜ r ≡ checkAnswer (now (map .entry)) (now (store .entry)) (now (image .entry)) ⌝ }
 {
-    banks::check(map, store, image) as u32
+    faces::check_face(map, store, image)
 }
 
 // Number, width and store offset of the value that begins at the bank and location.
@@ -30,18 +19,7 @@ pub extern "C" fn mf_check(map: &[u8], store: &[u8], image: &[u8]) -> u32
 pub extern "C" fn mf_look(map: &[u8], store: &[u8], bank: u8, location: u8) -> u32
     ensures { λ r. ⌜ r ≡ lookAnswer (now (map .entry)) (now (store .entry)) bank location ⌝ }
 {
-    look_word(looks::look_at(map, store, bank, location))
-}
-
-// The number for bytes that are no state's: 7 to 11, then 12.
-fn shape_number(map: &[u8], store: &[u8], image: &[u8]) -> u8
-    ensures { λ r. ⌜ r ≡ shapeNumber (now (map .entry)) (now (store .entry)) (length (now (image .entry))) ⌝ }
-{
-    let number = banks::check(map, store, image);
-    if number != 0 {
-        return number;
-    }
-    12
+    faces::look_face(map, store, bank, location)
 }
 
 // A state is made, and the store as a power-on leaves it.
@@ -56,14 +34,7 @@ pub extern "C" fn mf_start(
 ) -> u32
     ensures { λ r. ⌜ Faces r (now (state .exit)) (now (store .exit)) (startFace (now (map .entry)) (now (store .entry)) (now (image .entry)) address groups) ⌝ }
 {
-    let who = Who {
-        address: address,
-        groups: groups,
-    };
-    let stepped = unit::start(map, store, image, who);
-    let after = pack(stepped.state);
-    *state = after;
-    reply_word(stepped.reply)
+    faces::start_face(map, store, image, address, groups, state)
 }
 
 // A frame, heard at a clock.
@@ -78,18 +49,7 @@ pub extern "C" fn mf_frame(
 ) -> u32
     ensures { λ r. ⌜ Faces r (now (state .exit)) (now (store .exit)) (frameFace (now (map .entry)) (now (store .entry)) (now (image .entry)) (now (state .entry)) frame clock) ⌝ }
 {
-    let bytes = *state;
-    if !shape_holds(bytes) {
-        return refusal_word(shape_number(map, store, image));
-    }
-    let heard = Heard {
-        clock: clock,
-        frame: frame,
-    };
-    let stepped = unit::step(map, store, image, unpack(bytes), heard);
-    let after = pack(stepped.state);
-    *state = after;
-    reply_word(stepped.reply)
+    faces::frame_face(map, store, image, state, frame, clock)
 }
 
 // A later power-on.
@@ -102,23 +62,7 @@ pub extern "C" fn mf_power_on(
 ) -> u32
     ensures { λ r. ⌜ Faces r (now (state .exit)) (now (store .exit)) (powerOnFace (now (map .entry)) (now (store .entry)) (now (image .entry)) (now (state .entry))) ⌝ }
 {
-    let bytes = *state;
-    if !shape_holds(bytes) {
-        return refusal_word(shape_number(map, store, image));
-    }
-    let stepped = unit::power_on(map, store, image, unpack(bytes));
-    let after = pack(stepped.state);
-    *state = after;
-    reply_word(stepped.reply)
-}
-
-// A state that breaks the rule of the address.
-fn unfit(state: State) -> State
-    ensures { λ r. ⌜ addressHolds (r .who .address) ≡ false ⌝ }
-{
-    let mut broken = state;
-    broken.who.address = 64;
-    broken
+    faces::power_on_face(map, store, image, state)
 }
 
 // Many records, with one check. Bytes that are no state's are refused like a state that breaks a rule.
@@ -133,14 +77,5 @@ pub extern "C" fn mf_run(
 ) -> usize
     ensures { λ r. ⌜ RunFaces r (now (state .exit)) (now (store .exit)) (now (output .exit)) (now (output .entry)) (runFace (now (map .entry)) (now (store .entry)) (now (image .entry)) (now (state .entry)) (entries (now (records .entry)) (roomFor (length (now (records .entry))) (length (now (output .entry)))))) ⌝ }
 {
-    let bytes = *state;
-    let kept = unpack(bytes);
-    if !shape_holds(bytes) {
-        let refused = tracing::run(map, store, image, unfit(kept), records, output);
-        return refused.count;
-    }
-    let ran = tracing::run(map, store, image, kept, records, output);
-    let after = pack(ran.state);
-    *state = after;
-    ran.count
+    faces::run_face(map, store, image, state, records, output)
 }

@@ -1,12 +1,12 @@
--- The bytes of a state, put one room after the other, and read.
+-- The bytes of a state, put one room after the other.
 -- Assumes nothing.
 use Prim.Native.Nat.{ℕ}
 use mathlib.Core.Path.{_≡_, _∙_}
 use mathlib.Core.List.{List}
-use lib.ListN.{length, getD, set, replicate}
-use Rattle.laws.specs.Parts.{part, put}
+use lib.ListN.{length, set, replicate}
+use Rattle.laws.specs.Parts.{put}
 use Rattle.rooms.specs.declared.state.State.{State}
-use Rattle.packing.specs.StateBytes.{flag, bytesOf, stateBytes, fourAt, flagAt, stateOf}
+use Rattle.packing.specs.StateBytes.{flag, bytesOf, stateBytes}
 use Rattle.packing.proofs.Spelled.{spelled}
 
 pub packed : (s : State) (waits opens holds : ℕ) (who frame clock staged latched : List ℕ) →
@@ -39,23 +39,3 @@ packed s waits opens holds who frame clock staged latched w o h e₁ e₉ e₁�
       spelled 8 (s .door .staged .bytes) (e₂₁ .1),
       spelled 8 (s .latch .bytes) (e₃₂ .1),
     )
-
-pub unpacked : (b : List ℕ) {groups frame clock : ℕ} {staged latched : List ℕ} →
-    groups ≡ fourAt b 1 →
-    frame ≡ fourAt b 9 →
-    clock ≡ fourAt b 13 →
-    staged ≡ part 21 8 b →
-    latched ≡ part 32 8 b →
-    record {
-      who = record { address = getD b 0 0; groups = groups };
-      registers = record { dtr0 = getD b 5 0; dtr1 = getD b 6 0; dtr2 = getD b 7 0 };
-      waiting = record { held = flagAt b 8; frame = frame; clock = clock };
-      door =
-          record {
-            enabled = flagAt b 17;
-            staged = record { count = getD b 18 0; bank = getD b 19 0; first = getD b 20 0; bytes = staged };
-          };
-      latch = record { held = flagAt b 29; bank = getD b 30 0; first = getD b 31 0; bytes = latched };
-    } ≡ stateOf b
-unfolding stateOf
-unpacked b g f c s l = rw (g, f, c, s, l)

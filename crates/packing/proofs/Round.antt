@@ -1,6 +1,6 @@
 -- A state comes back from its bytes, and 96 bytes that are a state's come back from that state.
 -- Assumes nothing.
-use Prim.Native.Nat.{ℕ, zero, suc, _+_, _*_, _/_, _%_, _^_, _≤_, _<_}
+use Prim.Native.Nat.{ℕ, zero, suc, _+_, _-_, _*_, _/_, _%_, _^_, _≤_, _<_}
 use mathlib.Core.Path.{_≡_, refl, sym, ap, _∙_}
 use mathlib.Core.Bool.{Bool, true, false, _&&_}
 use mathlib.Core.List.{List, [], _∷_, _++_}
@@ -13,9 +13,10 @@ use Rattle.laws.specs.Lists.{items, every}
 use Rattle.laws.specs.Parts.{part}
 use Rattle.laws.proofs.Tests.{both}
 use Rattle.laws.proofs.Bits.{above-all, above-none, cut}
+use Rattle.rooms.specs.State.{withWho, withRegisters, withWaiting, withDoor, withLatch}
 use Rattle.rooms.specs.declared.state.State.{State}
-use Rattle.tracing.specs.Entry.{fourBytes}
-use Rattle.packing.specs.StateBytes.{flag, bytesOf, stateBytes, fourAt, flagAt, stateOf, shapeHolds}
+use Rattle.entries.specs.Entry.{fourBytes}
+use Rattle.packing.specs.StateBytes.{flag, bytesOf, used, stateBytes, fourAt, stateOf, shapeHolds}
 use Rattle.packing.specs.Promises.{StateHeld, StateBack, Bytes, BytesBack}
 use Rattle.packing.proofs.Spelled.{at, part-items, spelled, zeros-are}
 
@@ -41,7 +42,7 @@ flag-low true = refl
 flag-low false = refl
 
 pub state-back : StateBack
-unfolding stateBytes bytesOf stateOf fourAt shapeHolds part
+unfolding stateBytes bytesOf stateOf withWho withRegisters withWaiting withDoor withLatch fourAt shapeHolds part
 state-back s h =
     rw (
       spelled 8 (s .door .staged .bytes) (h .staged),
@@ -86,7 +87,7 @@ module _ (b : List ℕ) (h : Bytes b) (t : shapeHolds b ≡ true) where
   unfolding fourAt
   four-of i = bytes-back-four _ _ _ _ (h .small i) (h .small (i + 1)) (h .small (i + 2)) (h .small (i + 3))
 
-  shape : (at b 8 ≤ 1) × (at b 17 ≤ 1) × (at b 29 ≤ 1) × (every (λ x. eqb x 0) (drop 40 b) ≡ true)
+  shape : (at b 8 ≤ 1) × (at b 17 ≤ 1) × (at b 29 ≤ 1) × (every (λ x. eqb x 0) (drop used b) ≡ true)
   unfolding shapeHolds
   shape =
       let p = both (leb (at b 8) 1 && leb (at b 17) 1 && leb (at b 29) 1) _ t in
@@ -94,8 +95,8 @@ module _ (b : List ℕ) (h : Bytes b) (t : shapeHolds b ≡ true) where
       let r = both (leb (at b 8) 1) _ (q .0) in
       (leb-true _ 1 (r .0), leb-true _ 1 (r .1), leb-true _ 1 (q .1), p .1)
 
-  rooms : stateBytes (stateOf b) ≡ items (at b) 0 40 ++ replicate 56 0
-  unfolding stateBytes stateOf
+  rooms : stateBytes (stateOf b) ≡ items (at b) 0 used ++ replicate (96 - used) 0
+  unfolding stateBytes stateOf withWho withRegisters withWaiting withDoor withLatch
   rooms =
       let l = h .long in
       rw (
@@ -109,19 +110,19 @@ module _ (b : List ℕ) (h : Bytes b) (t : shapeHolds b ≡ true) where
         flag-of (at b 29) (shape .2),
       )
 
-  behind : drop 40 b ≡ replicate 56 0
+  behind : drop used b ≡ replicate (96 - used) 0
   behind =
-      let rest : length (drop 40 b) ≡ 56 = omega (arith, length-drop 40 b, h .long) in
-      zeros-are (drop 40 b) (shape .3) ∙ ap (λ (n : ℕ). replicate n 0) rest
+      let rest : length (drop used b) ≡ 96 - used = omega (arith, length-drop used b, h .long) in
+      zeros-are (drop used b) (shape .3) ∙ ap (λ (n : ℕ). replicate n 0) rest
 
   pub back : stateBytes (stateOf b) ≡ b
   unfolding part
   back =
       let l = h .long in
       rooms
-      ∙ ap (λ (r : List ℕ). r ++ replicate 56 0) (sym (part-items 40 0 b (omega arith)))
-      ∙ ap (λ (r : List ℕ). take 40 b ++ r) (sym behind)
-      ∙ take-append-drop 40 b
+      ∙ ap (λ (r : List ℕ). r ++ replicate (96 - used) 0) (sym (part-items used 0 b (omega arith)))
+      ∙ ap (λ (r : List ℕ). take used b ++ r) (sym behind)
+      ∙ take-append-drop used b
 
 pub bytes-back : BytesBack
 bytes-back b h t = back b h t

@@ -1,6 +1,6 @@
 -- A state as 96 bytes, high bytes first, and back.
 -- Assumes nothing.
-use Prim.Native.Nat.{ℕ, _+_}
+use Prim.Native.Nat.{ℕ, _+_, _-_}
 use mathlib.Core.Bool.{Bool, true, false, _&&_}
 use mathlib.Core.List.{List, [], _∷_, _++_}
 use lib.Dec.{leb, eqb}
@@ -12,10 +12,11 @@ use Rattle.laws.specs.Parts.{part}
 use Rattle.memory.specs.declared.latched.Latch.{Latch}
 use Rattle.hearing.specs.declared.rooms.Who.{Who}
 use Rattle.hearing.specs.declared.rooms.Waiting.{Waiting}
+use Rattle.rooms.specs.State.{zeroState, withWho, withRegisters, withWaiting, withDoor, withLatch}
 use Rattle.rooms.specs.declared.state.Registers.{Registers}
 use Rattle.rooms.specs.declared.state.Door.{Door}
 use Rattle.rooms.specs.declared.state.State.{State}
-use Rattle.tracing.specs.Entry.{fourBytes}
+use Rattle.entries.specs.Entry.{fourBytes}
 
 -- 0/1
 abbrev pub flag : Bool → ℕ
@@ -45,12 +46,15 @@ doorBytes d = flag (d .enabled) ∷ d .staged .count ∷ d .staged .bank ∷ d .
 abbrev pub latchBytes : Latch → List ℕ
 latchBytes l = flag (l .held) ∷ l .bank ∷ l .first ∷ l .bytes
 
--- 40..95 zero, kept for what comes later
+-- where the bytes in use end: from here to 95 all are zero, kept for what comes later
+abbrev pub used : ℕ
+used = 40
+
 unfoldable pub stateBytes : State → List ℕ
 stateBytes s =
     whoBytes (s .who)
     ++ (registersBytes (s .registers)
-    ++ (waitingBytes (s .waiting) ++ (doorBytes (s .door) ++ (latchBytes (s .latch) ++ replicate 56 0))))
+    ++ (waitingBytes (s .waiting) ++ (doorBytes (s .door) ++ (latchBytes (s .latch) ++ replicate (96 - used) 0))))
 
 -- the four bytes from place i on, as a number
 unfoldable pub fourAt : List ℕ → ℕ → ℕ
@@ -60,22 +64,33 @@ abbrev pub flagAt : List ℕ → ℕ → Bool
 flagAt b i = eqb (getD b i 0) 1
 
 -- the same places, read
-unfoldable pub stateOf : List ℕ → State
-stateOf b =
+abbrev pub whoAt : List ℕ → Who
+whoAt b = record { address = getD b 0 0; groups = fourAt b 1 }
+
+abbrev pub registersAt : List ℕ → Registers
+registersAt b = record { dtr0 = getD b 5 0; dtr1 = getD b 6 0; dtr2 = getD b 7 0 }
+
+abbrev pub waitingAt : List ℕ → Waiting
+waitingAt b = record { held = flagAt b 8; frame = fourAt b 9; clock = fourAt b 13 }
+
+abbrev pub doorAt : List ℕ → Door
+doorAt b =
     record {
-      who = record { address = getD b 0 0; groups = fourAt b 1 };
-      registers = record { dtr0 = getD b 5 0; dtr1 = getD b 6 0; dtr2 = getD b 7 0 };
-      waiting = record { held = flagAt b 8; frame = fourAt b 9; clock = fourAt b 13 };
-      door =
-          record {
-            enabled = flagAt b 17;
-            staged =
-                record { count = getD b 18 0; bank = getD b 19 0; first = getD b 20 0; bytes = part 21 8 b };
-          };
-      latch = record { held = flagAt b 29; bank = getD b 30 0; first = getD b 31 0; bytes = part 32 8 b };
+      enabled = flagAt b 17;
+      staged = record { count = getD b 18 0; bank = getD b 19 0; first = getD b 20 0; bytes = part 21 8 b };
     }
 
--- no flag over 1, and no byte from 40 on that is not zero
+abbrev pub latchAt : List ℕ → Latch
+latchAt b = record { held = flagAt b 29; bank = getD b 30 0; first = getD b 31 0; bytes = part 32 8 b }
+
+-- a room that has no places of its own is zero
+unfoldable pub stateOf : List ℕ → State
+stateOf b =
+    withLatch
+    (withDoor (withWaiting (withRegisters (withWho zeroState (whoAt b)) (registersAt b)) (waitingAt b)) (doorAt b))
+    (latchAt b)
+
+-- no flag over 1, and no byte behind those in use that is not zero
 unfoldable pub shapeHolds : List ℕ → Bool
 shapeHolds b =
-    leb (getD b 8 0) 1 && leb (getD b 17 0) 1 && leb (getD b 29 0) 1 && every (λ x. eqb x 0) (drop 40 b)
+    leb (getD b 8 0) 1 && leb (getD b 17 0) 1 && leb (getD b 29 0) 1 && every (λ x. eqb x 0) (drop used b)

@@ -3,9 +3,11 @@ ghost use mathlib.Core.Path.{_≡_};
 ghost use Prim.Native.Nat.{_+_, _≤_};
 ghost use Rattle.laws.specs.Lists.{every};
 ghost use Rattle.laws.specs.Parts.{part, put};
-ghost use Rattle.packing.specs.StateBytes.{flag, bytesOf, stateBytes, fourAt, stateOf, shapeHolds};
+ghost use Rattle.packing.specs.StateBytes.{flag, bytesOf, stateBytes, fourAt, stateOf, used, shapeHolds};
+ghost use Rattle.packing.specs.StateBytes.{whoAt, registersAt, waitingAt, doorAt, latchAt};
 ghost use lib.Dec.{eqb};
 ghost use lib.ListN.{length, drop};
+use entries::four_bytes;
 use hearing::Waiting;
 use hearing::Who;
 use memory::Latch;
@@ -13,7 +15,15 @@ use memory::Staged;
 use rooms::Door;
 use rooms::Registers;
 use rooms::State;
-use tracing::four_bytes;
+use rooms::with_door;
+use rooms::with_latch;
+use rooms::with_registers;
+use rooms::with_waiting;
+use rooms::with_who;
+use rooms::zero_state;
+
+// Where the bytes in use end.
+const USED: usize = 40;
 
 pub fn flag(b: bool) -> u8
     ensures { λ r. ⌜ r ≡ flag b ⌝ }
@@ -43,24 +53,38 @@ fn eight_at(bytes: [u8; 96], i: usize) -> [u8; 8]
     eight
 }
 
-// The state that the bytes say.
-pub fn unpack(bytes: [u8; 96]) -> State
-    ensures { λ r. ⌜ r ≡ stateOf bytes ⌝ }
+fn who_at(bytes: [u8; 96]) -> Who
+    ensures { λ r. ⌜ r ≡ whoAt bytes ⌝ }
 {
-    let who = Who {
+    Who {
         address: bytes[0],
         groups: four_at(bytes, 1),
-    };
-    let registers = Registers {
+    }
+}
+
+fn registers_at(bytes: [u8; 96]) -> Registers
+    ensures { λ r. ⌜ r ≡ registersAt bytes ⌝ }
+{
+    Registers {
         dtr0: bytes[5],
         dtr1: bytes[6],
         dtr2: bytes[7],
-    };
-    let waiting = Waiting {
+    }
+}
+
+fn waiting_at(bytes: [u8; 96]) -> Waiting
+    ensures { λ r. ⌜ r ≡ waitingAt bytes ⌝ }
+{
+    Waiting {
         held: bytes[8] == 1,
         frame: four_at(bytes, 9),
         clock: four_at(bytes, 13),
-    };
+    }
+}
+
+fn door_at(bytes: [u8; 96]) -> Door
+    ensures { λ r. ⌜ r ≡ doorAt bytes ⌝ }
+{
     let staged_bytes = eight_at(bytes, 21);
     let staged = Staged {
         count: bytes[18],
@@ -68,31 +92,39 @@ pub fn unpack(bytes: [u8; 96]) -> State
         first: bytes[20],
         bytes: staged_bytes,
     };
-    let door = Door {
+    Door {
         enabled: bytes[17] == 1,
         staged: staged,
-    };
+    }
+}
+
+fn latch_at(bytes: [u8; 96]) -> Latch
+    ensures { λ r. ⌜ r ≡ latchAt bytes ⌝ }
+{
     let latched_bytes = eight_at(bytes, 32);
-    let latch = Latch {
+    Latch {
         held: bytes[29] == 1,
         bank: bytes[30],
         first: bytes[31],
         bytes: latched_bytes,
-    };
-    State {
-        who: who,
-        registers: registers,
-        waiting: waiting,
-        door: door,
-        latch: latch,
     }
 }
 
-// Zero from place 40 on.
-fn is_zero_behind(bytes: [u8; 96]) -> bool
-    ensures { λ r. ⌜ r ≡ every (λ x. eqb x 0) (drop 40 bytes) ⌝ }
+// The state that the bytes say. It goes by setters, so that a room without places of its own is zero.
+pub fn unpack(bytes: [u8; 96]) -> State
+    ensures { λ r. ⌜ r ≡ stateOf bytes ⌝ }
 {
-    let mut i = 40;
+    let named = with_who(zero_state(), who_at(bytes));
+    let loaded = with_registers(named, registers_at(bytes));
+    let waits = with_waiting(loaded, waiting_at(bytes));
+    with_latch(with_door(waits, door_at(bytes)), latch_at(bytes))
+}
+
+// Zero behind the bytes in use.
+fn is_zero_behind(bytes: [u8; 96]) -> bool
+    ensures { λ r. ⌜ r ≡ every (λ x. eqb x 0) (drop used bytes) ⌝ }
+{
+    let mut i = USED;
     while i < 96 {
         if bytes[i] != 0 {
             return false;

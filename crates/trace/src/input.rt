@@ -72,7 +72,7 @@ fn trace_some(
     let ran = tracing::run(map, store, image, state, &input[..filled], output);
     let written = write_answers(output, ran.count);
     let after = ran.state;
-    let kept = tracing::keep_rest(input, filled);
+    let kept = entries::keep_rest(input, filled);
     Flow {
         state: after,
         kept: kept,

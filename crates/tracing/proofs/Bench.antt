@@ -18,7 +18,7 @@ use Rattle.unit.specs.Bench.{benchMap, benchStore, benchImage, benchWho, benchR
 use Rattle.unit.specs.Bench.{Line, says, Runs, Hold}
 use Rattle.unit.proofs.Bench.{sheet-holds}
 use Rattle.unit.proofs.Numbers.{calls-reply}
-use Rattle.tracing.specs.Entry.{entryOf, entryAt, wholeRecords, isBroken}
+use Rattle.entries.specs.Entry.{entryOf, entryAt, wholeRecords, isBroken}
 use Rattle.tracing.specs.Trace.{inputsOf, broken, tracedOf, whoOf, fileNumber, closed, traceOf}
 use Rattle.tracing.specs.Bench.{benchAdr, p11Records, benchTrace, BenchTraces, BenchFiles}
 use Rattle.tracing.proofs.Starts.{files-numbered}
@@ -82,5 +82,5 @@ bench-traces =
     }
 
 pub bench-files : BenchFiles
-unfolding entryOf entryAt whoOf
-bench-files = record { hears = refl; power-on = refl; unknown = refl; who = refl }
+unfolding whoOf
+bench-files = record { who = refl }

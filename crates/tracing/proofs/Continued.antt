@@ -10,20 +10,21 @@ use lib.Dec.{eqb}
 use lib.ListN.{length}
 use Rattle.laws.specs.Choice.{if_then_else_}
 use Rattle.laws.specs.Lists.{some}
+use Rattle.hearing.specs.Pairs.{heardAt}
 use Rattle.rooms.specs.declared.state.State.{State}
 use Rattle.unit.specs.Run.{power-on, hears, inputOf, outputOf}
-use Rattle.tracing.specs.Entry.{isBroken}
+use Rattle.entries.specs.Entry.{isBroken}
 use Rattle.tracing.specs.Trace.{Traced, tracedOf, broken, closed}
 use Rattle.tracing.specs.Run.{behind, continued}
 use Rattle.tracing.specs.Promises.{OneAfterOther, answered, FourEach, ThirteenEnds}
-use Rattle.tracing.specs.declared.entry.Entry.{Entry}
+use Rattle.entries.specs.declared.entry.Entry.{Entry}
 
 module _ (map image : List ℕ) where
   -- the first record, and then the others
   turn-first : (store : List ℕ) (s : State) (e : Entry) (es : List Entry)
       → tracedOf map image store s (e ∷ es) ≡ continued map image (tracedOf map image store s (e ∷ [])) es
   unfolding tracedOf continued outputOf
-  turn-first store s (Entry.Hears heard) es = refl
+  turn-first store s (Entry.Frame clock frame) es = refl
   turn-first store s Entry.PowerOn es = refl
   turn-first store s Entry.Broken es = refl
 
@@ -95,8 +96,8 @@ one-after-other map image = after-other map image
 pub four-each : FourEach
 unfolding tracedOf outputOf
 four-each map image store s [] = refl
-four-each map image store s (Entry.Hears heard ∷ es) =
-    let o = inputOf map image store s (hears heard) in
+four-each map image store s (Entry.Frame clock frame ∷ es) =
+    let o = inputOf map image store s (hears (heardAt clock frame)) in
     omega (arith, four-each map image (o .store) (o .answer .state) es)
 four-each map image store s (Entry.PowerOn ∷ es) =
     let o = inputOf map image store s power-on in

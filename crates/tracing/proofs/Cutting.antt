@@ -1,68 +1,23 @@
 -- The input in slices of whole records: the records of all are those of each, and the trace is the same.
 -- Assumes nothing.
-use Prim.Native.Nat.{ℕ, _+_, _*_, _/_, _%_, _<_, _≤_}
+use Prim.Native.Nat.{ℕ, _/_, _%_}
 use mathlib.Core.Path.{_≡_, refl, ap, sym, _∙_}
 use mathlib.Core.Bool.{true}
 use mathlib.Core.List.{List, [], _∷_, _++_, append-nil}
-use native.Mathlib.Nat.{add-zero, zero-add, add-assoc, mul-add}
 use native.Mathlib.Omega.{arith}
 use borrow.Author.Tests.{eq-eqb, eqb-true}
-use lib.ListN.{length, getD, length-append, List·getD-append}
-use lib.Seq.{getD-append-add}
-use Rattle.laws.specs.Lists.{items, every}
+use lib.ListN.{length, length-append}
+use Rattle.laws.specs.Lists.{every}
 use Rattle.laws.proofs.Tests.{both}
 use Rattle.rooms.specs.declared.state.State.{State}
 use Rattle.unit.specs.Step.{startOf}
-use Rattle.tracing.proofs.Sequences.{items-same, items-append}
-use Rattle.tracing.specs.Entry.{entryAt, entries, wholeRecords}
+use Rattle.entries.specs.Entry.{wholeRecords}
+use Rattle.entries.specs.Promises.{isWhole}
+use Rattle.entries.proofs.Joined.{whole-joined}
 use Rattle.tracing.specs.Trace.{Traced, tracedOf, whoOf, fileNumber, closed, traceOf}
 use Rattle.tracing.specs.Run.{continued}
-use Rattle.tracing.specs.Promises.{RecordsJoined, begun, inSlices, joined, isWhole, CutAnywhere}
+use Rattle.tracing.specs.Promises.{begun, inSlices, joined, CutAnywhere}
 use Rattle.tracing.proofs.Continued.{continued-more, continued-none}
-
--- the same eight bytes are the same entry
-entry-same : (a b : List ℕ) (i j : ℕ) → ((c : ℕ) → c < 8 → getD a (8 * i + c) 0 ≡ getD b (8 * j + c) 0)
-    → entryAt a i ≡ entryAt b j
-unfolding entryAt
-entry-same a b i j h =
-    let first : getD a (8 * i) 0 ≡ getD b (8 * j) 0 =
-    ap (λ (k : ℕ). getD a k 0) (sym (add-zero (8 * i))) ∙ h 0 (omega arith)
-    ∙ ap (λ (k : ℕ). getD b k 0) (add-zero (8 * j)) in
-    rw (
-      first,
-      h 1 (omega arith),
-      h 2 (omega arith),
-      h 3 (omega arith),
-      h 4 (omega arith),
-      h 5 (omega arith),
-      h 6 (omega arith),
-      h 7 (omega arith),
-    )
-
-pub records-joined : RecordsJoined
-records-joined a b k n e = items-append (entryAt (a ++ b)) k n 0 ∙ front ∙ back
-  where
-    front : items (entryAt (a ++ b)) 0 k ++ items (entryAt (a ++ b)) (0 + k) n
-        ≡ entries a k ++ items (entryAt (a ++ b)) (0 + k) n
-    front =
-        ap (λ (es : List _). es ++ items (entryAt (a ++ b)) (0 + k) n)
-        (items-same (entryAt (a ++ b)) (entryAt a) k 0 0 (λ i h.
-        entry-same (a ++ b) a (0 + i) (0 + i) (λ c l. List·getD-append a b 0 (8 * (0 + i) + c) (omega arith))))
-
-    back : entries a k ++ items (entryAt (a ++ b)) (0 + k) n ≡ entries a k ++ entries b n
-    back =
-        ap (λ (es : List _). entries a k ++ es)
-        (items-same (entryAt (a ++ b)) (entryAt b) n (0 + k) 0 (λ i h.
-        entry-same (a ++ b) b (0 + k + i) (0 + i) (λ c l.
-        let q : 8 * (0 + k + i) + c ≡ length a + (8 * (0 + i) + c) = omega arith in
-        ap (λ (m : ℕ). getD (a ++ b) m 0) q ∙ getD-append-add a b (8 * (0 + i) + c) 0)))
-
--- a slice of whole records and what follows it
-whole-joined : (a b : List ℕ) → length a % 8 ≡ 0 → wholeRecords (a ++ b) ≡ wholeRecords a ++ wholeRecords b
-whole-joined a b e =
-    let all : length (a ++ b) / 8 ≡ length a / 8 + length b / 8 = omega (arith, length-append a b) in
-    ap (entries (a ++ b)) all
-    ∙ records-joined a b (length a / 8) (length b / 8) (omega arith)
 
 joined-whole : (slices : List (List ℕ)) → every isWhole slices ≡ true → length (joined slices) % 8 ≡ 0
 joined-whole [] h = refl

@@ -1,11 +1,8 @@
-pub mod Sequences
-pub mod Frames
 pub mod Continued
 pub mod Cutting
 pub mod Checks
 pub mod Starts
 pub mod Settled
 pub mod Bench
-pub mod Moved
 pub mod Written
 pub mod Turning

@@ -8,7 +8,7 @@ use lib.ListN.{length, length-append, length-drop}
 use Rattle.laws.proofs.Settled.{settles}
 use Rattle.tracing.specs.Trace.{Traced, whoOf}
 use Rattle.tracing.specs.Run.{Runs}
-use Rattle.tracing.specs.Promises.{RunSettled, EntrySettled, WhoSettled}
+use Rattle.tracing.specs.Promises.{RunSettled, WhoSettled}
 use Rattle.tracing.specs.declared.runs.Ran.{Ran}
 
 pub run-settled : RunSettled
@@ -17,9 +17,6 @@ run-settled t before q r store stored output written p s = (
   p .leaves ∙ sym (s .leaves),
   p .writes ∙ sym (s .writes),
 )
-
-pub entry-settled : EntrySettled
-entry-settled bytes i q r p s = p .is ∙ sym (s .is)
 
 pub who-settled : WhoSettled
 who-settled adr = settles (whoOf adr)

@@ -20,10 +20,10 @@ use Rattle.rooms.specs.declared.state.State.{State}
 use Rattle.rooms.specs.declared.reply.Stepped.{Stepped}
 use Rattle.numbers.specs.Numbers.{powerNumber}
 use Rattle.unit.specs.Run.{inputOf, outputOf}
-use Rattle.tracing.specs.Entry.{entryAt, entries, isBroken, Reads}
+use Rattle.entries.specs.Entry.{entryAt, entries, isBroken}
+use Rattle.entries.specs.declared.entry.Entry.{Entry}
 use Rattle.tracing.specs.Trace.{Traced, tracedOf}
 use Rattle.tracing.specs.Run.{turnOf, behind, continued, soFar, Begins, Turns, roomFor, Runs}
-use Rattle.tracing.specs.declared.entry.Entry.{Entry}
 use Rattle.tracing.specs.declared.runs.Ran.{Ran}
 use Rattle.tracing.proofs.Checks.{one-check}
 use Rattle.tracing.proofs.Continued.{continued-more, continued-none, continued-ended}
@@ -39,7 +39,7 @@ turn-traced : (map image store : List ℕ) (s : State) (e : Entry)
       store = turnOf map image store s e .store;
     }
 unfolding tracedOf turnOf inputOf outputOf refusing
-turn-traced map image store s (Entry.Hears heard) = refl
+turn-traced map image store s (Entry.Frame clock frame) = refl
 turn-traced map image store s Entry.PowerOn = refl
 turn-traced map image store s Entry.Broken = refl
 
@@ -49,7 +49,7 @@ module _
     (number : ℕ)
     (begins : Begins r map store image records output number)
     (e : Entry)
-    (reads : Reads e records (r .count))
+    (reads : e ≡ entryAt records (r .count))
     (d : Stepped)
     (after : List ℕ)
     (gives : Gives d after (turnOf map image store (r .state) e))
@@ -78,7 +78,7 @@ module _
     does =
         rw (
           begins .goes-on,
-          ← reads .is,
+          ← reads,
           turn-traced map image store (r .state) e,
           ← gives .answer,
           ← gives .store,
@@ -94,7 +94,7 @@ module _
           does = does;
           rest-stays = back;
           still-checked =
-              begins .checked ∙ sym (one-check map image store (r .state) e (reads .framed))
+              begins .checked ∙ sym (one-check map image store (r .state) e)
               ∙ rw (← gives .answer, ← gives .store);
         }
 

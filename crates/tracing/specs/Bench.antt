@@ -1,13 +1,11 @@
--- The bench sheet's P11 and P12 as whole traces: the files' bytes and the records' bytes in, the printed bytes out. And
--- worked cases of one record and of unit.adr. Paper 01, "Bench sheet", "The trace program". Proved in proofs/: Bench.
+-- The bench sheet's P11 and P12 as whole traces: the files' bytes and the records' bytes in, the printed bytes out. And a
+-- worked case of unit.adr. Paper 01, "Bench sheet", "The trace program". Proved in proofs/: Bench.
 -- Assumes nothing.
 use Prim.Native.Nat.{ℕ}
 use mathlib.Core.Path.{_≡_}
 use mathlib.Core.List.{List, [], _∷_, _++_}
 use Rattle.unit.specs.Bench.{benchMap, benchStore, benchImage}
-use Rattle.tracing.specs.Entry.{entryAt}
 use Rattle.tracing.specs.Trace.{whoOf, traceOf}
-use Rattle.tracing.specs.declared.entry.Entry.{Entry}
 
 -- address 5, no groups
 abbrev pub benchAdr : List ℕ
@@ -58,11 +56,5 @@ pub record BenchTraces : Type 0 where
   pub bad-address : benchTrace (0x40 ∷ 0x00 ∷ 0x00 ∷ 0x00 ∷ 0x00 ∷ []) p11Records ≡ 6 ∷ 0 ∷ 0 ∷ 0 ∷ []
 
 pub record BenchFiles : Type 0 where
-  -- clock (4, high first), kind 0 frame or 1 power-on, frame (3)
-  pub hears : entryAt (0x01 ∷ 0x02 ∷ 0x03 ∷ 0x04 ∷ 0 ∷ 0x0B ∷ 0xFE ∷ 0x15 ∷ []) 0
-      ≡ Entry.Hears (record { clock = 0x01020304; frame = 0x0BFE15 })
-  -- clock and frame of a power-on record are ignored
-  pub power-on : entryAt (0x01 ∷ 0x02 ∷ 0x03 ∷ 0x04 ∷ 1 ∷ 0x0B ∷ 0xFE ∷ 0x15 ∷ []) 0 ≡ Entry.PowerOn
-  pub unknown : entryAt (0x01 ∷ 0x02 ∷ 0x03 ∷ 0x04 ∷ 2 ∷ 0x0B ∷ 0xFE ∷ 0x15 ∷ []) 0 ≡ Entry.Broken
   -- address, then 32 group bits, high byte first
   pub who : whoOf (0x05 ∷ 0x01 ∷ 0x02 ∷ 0x03 ∷ 0x04 ∷ []) ≡ record { address = 0x05; groups = 0x01020304 }

@@ -1,8 +1,7 @@
 -- What is proved of a trace: one run after the other, slices, how much is written, 13 and the tail, one check, the
--- numbers of the files. Paper 01, "The trace program". Proved in proofs/: Continued, Cutting, Moved, Checks, Starts and
--- Settled.
+-- numbers of the files. Paper 01, "The trace program". Proved in proofs/: Continued, Cutting, Checks, Starts and Settled.
 -- Assumes nothing.
-use Prim.Native.Nat.{ℕ, suc, _+_, _-_, _*_, _<_, _≤_, _%_}
+use Prim.Native.Nat.{ℕ, suc, _*_, _<_}
 use mathlib.Core.Path.{_≡_}
 use mathlib.Core.Bool.{Bool, true, false, _&&_}
 use mathlib.Core.List.{List, [], _∷_, _++_}
@@ -17,11 +16,11 @@ use Rattle.rooms.specs.declared.state.State.{State}
 use Rattle.numbers.specs.Numbers.{powerNumber, startNumber}
 use Rattle.numbers.specs.Promises.{GivenBy}
 use Rattle.unit.specs.Step.{startOf}
-use Rattle.tracing.specs.Entry.{entries, wholeRecords, isBroken, isFramed, Reads}
+use Rattle.entries.specs.Entry.{wholeRecords, isBroken}
+use Rattle.entries.specs.Promises.{isWhole}
+use Rattle.entries.specs.declared.entry.Entry.{Entry}
 use Rattle.tracing.specs.Trace.{Traced, tracedOf, broken, whoOf, fileTests, fileNumber, closed, traceOf}
 use Rattle.tracing.specs.Run.{turnOf, continued, Runs}
-use Rattle.tracing.specs.Slices.{Keeps}
-use Rattle.tracing.specs.declared.entry.Entry.{Entry}
 use Rattle.tracing.specs.declared.runs.Ran.{Ran}
 
 -- ---- one after the other
@@ -30,10 +29,6 @@ use Rattle.tracing.specs.declared.runs.Ran.{Ran}
 abbrev pub OneAfterOther : Type 0
 OneAfterOther = (map image store : List ℕ) (s : State) (es fs : List Entry)
     → tracedOf map image store s (es ++ fs) ≡ continued map image (tracedOf map image store s es) fs
-
--- the records of two slices, one after the other, the first of k whole records, are the records of both
-abbrev pub RecordsJoined : Type 0
-RecordsJoined = (a b : List ℕ) (k n : ℕ) → length a ≡ 8 * k → entries (a ++ b) (k + n) ≡ entries a k ++ entries b n
 
 -- nothing read and nothing written yet
 abbrev pub begun : List ℕ → State → Traced
@@ -48,9 +43,6 @@ abbrev pub joined : List (List ℕ) → List ℕ
 joined [] = []
 joined (slice ∷ slices) = slice ++ joined slices
 
-abbrev pub isWhole : List ℕ → Bool
-isWhole slice = eqb (length slice % 8) 0
-
 -- however the input is cut into slices of whole records, with an unfinished one behind them or none, the trace is the
 -- same
 abbrev pub CutAnywhere : Type 0
@@ -60,15 +52,6 @@ CutAnywhere = (map store image adr : List ℕ) (slices : List (List ℕ)) (rest 
     ≡ closed (length rest)
     (inSlices map image
     (begun (startOf map store image (whoOf adr) .store) (startOf map store image (whoOf adr) .answer .state)) slices)
-
--- before what stays of a slice are whole records, and these with what stays are all that was read
-pub record Rest (kept : ℕ) (before after : List ℕ) (filled : ℕ) : Type 0 where
-  pub whole : isWhole (take (filled - kept) before) ≡ true
-  pub all : take (filled - kept) before ++ take kept after ≡ take filled before
-
-abbrev pub RestKept : Type 0
-RestKept = (kept : ℕ) (before after : List ℕ) (filled : ℕ)
-    → filled ≤ length before → Keeps kept before after filled → Rest kept before after filled
 
 -- ---- how much is written
 
@@ -108,7 +91,7 @@ ThirteenEnds = (map image store : List ℕ) (s : State) (es : List Entry) → Th
 
 -- the number of map, store, image and state is the same after a record as before it
 abbrev pub OneCheck : Type 0
-OneCheck = (map image store : List ℕ) (s : State) (e : Entry) → isFramed e ≡ true
+OneCheck = (map image store : List ℕ) (s : State) (e : Entry)
     → powerNumber map (turnOf map image store s e .store) (length image) (turnOf map image store s e .answer .state)
     ≡ powerNumber map store (length image) s
 
@@ -137,13 +120,6 @@ OneByteMore = (map store image adr input : List ℕ)
 abbrev pub RunSettled : Type 0
 RunSettled = (t : Traced) (before : List ℕ) (q r : Ran) (store stored output written : List ℕ)
     → Runs q store output before t → Runs r stored written before t → (q ≡ r) × (store ≡ stored) × (output ≡ written)
-
-abbrev pub RestSettled : Type 0
-RestSettled = (before : List ℕ) (filled q r : ℕ) (after left : List ℕ)
-    → Keeps q before after filled → Keeps r before left filled → (q ≡ r) × (after ≡ left)
-
-abbrev pub EntrySettled : Type 0
-EntrySettled = (bytes : List ℕ) (i : ℕ) → Settles (λ e. Reads e bytes i)
 
 abbrev pub WhoSettled : Type 0
 WhoSettled = (adr : List ℕ) → Settles (λ who. who ≡ whoOf adr)

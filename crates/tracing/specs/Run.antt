@@ -8,19 +8,20 @@ use lib.Dec.{ltb}
 use lib.ListN.{length, take, drop}
 use Rattle.laws.specs.Choice.{if_then_else_}
 use Rattle.laws.specs.Outcome.{Outcome, leaves}
+use Rattle.hearing.specs.Pairs.{heardAt}
 use Rattle.rooms.specs.Reply.{refusing}
 use Rattle.rooms.specs.declared.state.State.{State}
 use Rattle.rooms.specs.declared.reply.Stepped.{Stepped}
 use Rattle.numbers.specs.Numbers.{powerNumber}
 use Rattle.unit.specs.Step.{stepOf, powerOnOf}
-use Rattle.tracing.specs.Entry.{entryAt}
+use Rattle.entries.specs.Entry.{entryAt}
+use Rattle.entries.specs.declared.entry.Entry.{Entry}
 use Rattle.tracing.specs.Trace.{Traced, tracedOf}
-use Rattle.tracing.specs.declared.entry.Entry.{Entry}
 use Rattle.tracing.specs.declared.runs.Ran.{Ran}
 
 -- a record is handed to its public call; a broken one gets 13, and state and store stay
 unfoldable pub turnOf : List ℕ → List ℕ → List ℕ → State → Entry → Outcome Stepped
-turnOf map image store s (Entry.Hears heard) = stepOf map store image s heard
+turnOf map image store s (Entry.Frame clock frame) = stepOf map store image s (heardAt clock frame)
 turnOf map image store s Entry.PowerOn = powerOnOf map store image s
 turnOf map image store s Entry.Broken = leaves (refusing s 13) store
 

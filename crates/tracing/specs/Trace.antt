@@ -10,19 +10,20 @@ use Rattle.laws.specs.Lists.{some}
 use Rattle.laws.specs.Numbers.{Test, test, firstFailing}
 use Rattle.laws.specs.Outcome.{Outcome}
 use Rattle.banks.specs.Rules.{checkTests}
+use Rattle.hearing.specs.Pairs.{heardAt}
 use Rattle.hearing.specs.declared.rooms.Who.{Who}
 use Rattle.rooms.specs.Rules.{addressHolds}
 use Rattle.rooms.specs.declared.state.State.{State}
 use Rattle.rooms.specs.declared.reply.Stepped.{Stepped}
 use Rattle.unit.specs.Step.{startOf}
 use Rattle.unit.specs.Run.{Input, power-on, hears, Run, runFrom}
-use Rattle.tracing.specs.Entry.{fourBytes, wholeRecords, isBroken}
-use Rattle.tracing.specs.declared.entry.Entry.{Entry}
+use Rattle.entries.specs.Entry.{fourBytes, wholeRecords, isBroken}
+use Rattle.entries.specs.declared.entry.Entry.{Entry}
 
 -- the inputs before the first broken record, which ends the input
 abbrev pub inputsOf : List Entry → List Input
 inputsOf [] = []
-inputsOf (Entry.Hears heard ∷ es) = hears heard ∷ inputsOf es
+inputsOf (Entry.Frame clock frame ∷ es) = hears (heardAt clock frame) ∷ inputsOf es
 inputsOf (Entry.PowerOn ∷ es) = power-on ∷ inputsOf es
 inputsOf (Entry.Broken ∷ es) = []
 

@@ -2,7 +2,7 @@
 ghost use mathlib.Core.Path.{_≡_};
 ghost use lib.ListN.{length, getD};
 ghost use Rattle.tracing.specs.Trace.{whoOf, fileNumber};
-use crate::entry::four_bytes;
+use entries::four_bytes;
 use hearing::Who;
 
 fn byte_or_zero(bytes: &[u8], i: usize) -> u8

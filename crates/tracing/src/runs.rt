@@ -1,6 +1,5 @@
 // A run of records: map, store, image and state are checked once; then each record's step, and its four bytes.
 ghost use mathlib.Core.Path.{_≡_};
-ghost use mathlib.Core.Bool.{true};
 ghost use Prim.Native.Nat.{_+_, _≤_};
 ghost use lib.ListN.{length};
 ghost use Rattle.laws.specs.Choice.{if_then_else_};
@@ -8,12 +7,12 @@ ghost use Rattle.laws.specs.Outcome.{Gives};
 ghost use Rattle.laws.specs.Parts.{put};
 ghost use Rattle.numbers.specs.Numbers.{powerNumber};
 ghost use Rattle.unit.specs.Run.{outputOf};
-ghost use Rattle.tracing.specs.Entry.{entries, isFramed};
+ghost use Rattle.entries.specs.Entry.{entries};
 ghost use Rattle.tracing.specs.Trace.{tracedOf};
 ghost use Rattle.tracing.specs.Run.{turnOf, Begins, Turns, roomFor, Runs};
-use crate::entry::Entry;
-use crate::entry::entry_at;
-use crate::entry::is_broken;
+use entries::Entry;
+use entries::entry_at;
+use entries::is_broken;
 use rooms::Reply;
 use rooms::State;
 use rooms::Stepped;
@@ -43,7 +42,7 @@ fn write_reply(output: &mut [u8], at: usize, reply: Reply)
     output[at + 3] = 0;
 }
 
-// Internal: what the record's public call would do. Its number is known from the one check.
+// Internal: what the record's public call would do. Its number is known from the one check, but for a frame's own.
 fn step_entry(
     map: &[u8],
     store: &mut [u8],
@@ -52,13 +51,18 @@ fn step_entry(
     number: u8,
     entry: Entry,
 ) -> Stepped
-    requires { ⌜ (number ≡ powerNumber (now map) (now store) (length (now image)) state) × (isFramed entry ≡ true) ⌝ }
+    requires { ⌜ number ≡ powerNumber (now map) (now store) (length (now image)) state ⌝ }
     ensures { λ r. ⌜ Gives r (now (store .exit)) (turnOf (now (map .entry)) (now (image .entry)) (now (store .entry)) state entry) ⌝ }
 {
     match entry {
-        Entry::Hears(heard) => {
+        Entry::Frame(clock, frame) => {
             if number != 0 {
                 return refusing(state, number);
+            }
+            let heard = hearing::heard_at(clock, frame);
+            let refusal = numbers::heard_number(map, store, state, heard);
+            if refusal != 0 {
+                return refusing(state, refusal);
             }
             unit::frame_step(map, store, image, state, heard)
         }
@@ -66,8 +70,7 @@ fn step_entry(
             if number != 0 {
                 return refusing(state, number);
             }
-            let who = state.who;
-            unit::power_step(map, store, image, who)
+            unit::power_step(map, store, image, state)
         }
         Entry::Broken => refusing(state, 13),
     }

@@ -8,13 +8,14 @@ use borrow.Author.Tests.{eq-eqb, ne-eqb}
 use lib.Dec.{eqb}
 use lib.ListN.{length, drop}
 use Rattle.laws.specs.Lists.{every}
+use Rattle.packing.specs.StateBytes.{used}
 use Rattle.packing.proofs.Spelled.{from-fails, from-goes-on, from-ends}
 use Rattle.packing.proofs.state_bytes.is_zero_behind.Statement.{statement}
 use Rattle.packing.proofs.state_bytes.is_zero_behind.Tie as tie
 
 abbrev Inv-loop : tie.InvT-loop
 Inv-loop bytes i₀ i =
-    (length bytes ≡ 96) × (every (λ x. eqb x 0) (drop 40 bytes) ≡ every (λ x. eqb x 0) (drop i bytes))
+    (length bytes ≡ 96) × (every (λ x. eqb x 0) (drop used bytes) ≡ every (λ x. eqb x 0) (drop i bytes))
 
 abbrev μ-loop : tie.MeasureT-loop
 μ-loop bytes i₀ i = 96 - i

@@ -1,34 +1,43 @@
 -- `packing::state_bytes::unpack` meets its contract.
 -- Assumes nothing.
-use Rattle.packing.proofs.Packed.{unpacked}
+use Rattle.packing.specs.StateBytes.{stateOf}
 use borrow.Author.Needs.{needs}
 use Rattle.packing.proofs.state_bytes.unpack.Statement.{statement}
 use Rattle.packing.proofs.state_bytes.unpack.Tie as tie
 
 returns : tie.Need-returns
+unfolding stateOf
 returns c =
-    unpacked _ (c .before .before .before .before .four-at .ensures) (c .before .before .before .four-at2 .ensures)
-    (c .before .before .four-at3 .ensures) (c .before .eight-at .ensures) (c .eight-at2 .ensures)
+    let waits = c .before .before .before .before in
+    let loaded = waits .before .before in
+    let named = loaded .before .before in
+    rw (
+      ← named .before .before .zero-state .ensures,
+      ← named .before .who-at .ensures,
+      ← named .with-who .ensures,
+      ← loaded .before .registers-at .ensures,
+      ← loaded .with-registers .ensures,
+      ← waits .before .waiting-at .ensures,
+      ← waits .with-waiting .ensures,
+      ← c .before .before .before .door-at .ensures,
+      ← c .before .before .with-door .ensures,
+      ← c .before .latch-at .ensures,
+    )
+    (c .with-latch .ensures)
 
 pub unpack-spec : {M : Type 1} → statement M
 unpack-spec =
     tie.close
     (tie.spec
-    (λ c. search needs)
-    (λ c κs. search needs)
-    (λ c. search needs)
-    (λ c. search needs)
-    (λ c. search needs)
-    (λ c. search needs)
     (λ c κs. search needs)
     (λ c κs. search needs)
     (λ c κs. search needs)
-    (λ c. search needs)
-    (λ c. search needs)
-    (λ c. search needs)
-    (λ c. search needs)
     (λ c κs. search needs)
-    (λ c. search needs)
-    (λ c. search needs)
-    (λ c. search needs)
+    (λ c κs. search needs)
+    (λ c κs. search needs)
+    (λ c κs. search needs)
+    (λ c κs. search needs)
+    (λ c κs. search needs)
+    (λ c κs. search needs)
+    (λ c κs. search needs)
     returns)

@@ -1,0 +1,37 @@
+-- What is proved of records and slices: slices one after the other, and what stays of one. Paper 01, "The trace program".
+-- Proved in proofs/: Joined, Moved, Settled.
+-- Assumes nothing.
+use Prim.Native.Nat.{ℕ, _+_, _-_, _*_, _≤_, _%_}
+use mathlib.Core.Path.{_≡_}
+use mathlib.Core.Bool.{Bool, true}
+use mathlib.Core.List.{List, _++_}
+use lib.Dec.{eqb}
+use lib.ListN.{length, take}
+use Rattle.laws.specs.Settled.{Settles}
+use Rattle.entries.specs.Entry.{entryAt, entries}
+use Rattle.entries.specs.Slices.{Keeps}
+
+-- the records of two slices, one after the other, the first of k whole records, are the records of both
+abbrev pub RecordsJoined : Type 0
+RecordsJoined = (a b : List ℕ) (k n : ℕ) → length a ≡ 8 * k → entries (a ++ b) (k + n) ≡ entries a k ++ entries b n
+
+abbrev pub isWhole : List ℕ → Bool
+isWhole slice = eqb (length slice % 8) 0
+
+-- before what stays of a slice are whole records, and these with what stays are all that was read
+pub record Rest (kept : ℕ) (before after : List ℕ) (filled : ℕ) : Type 0 where
+  pub whole : isWhole (take (filled - kept) before) ≡ true
+  pub all : take (filled - kept) before ++ take kept after ≡ take filled before
+
+abbrev pub RestKept : Type 0
+RestKept = (kept : ℕ) (before after : List ℕ) (filled : ℕ)
+    → filled ≤ length before → Keeps kept before after filled → Rest kept before after filled
+
+-- ---- results meeting the same promise are equal
+
+abbrev pub RestSettled : Type 0
+RestSettled = (before : List ℕ) (filled q r : ℕ) (after left : List ℕ)
+    → Keeps q before after filled → Keeps r before left filled → (q ≡ r) × (after ≡ left)
+
+abbrev pub EntrySettled : Type 0
+EntrySettled = (bytes : List ℕ) (i : ℕ) → Settles (λ e. e ≡ entryAt bytes i)

@@ -1,0 +1,33 @@
+-- Results that meet the same promise are equal, for each call.
+-- Assumes nothing.
+use mathlib.Core.Path.{_≡_, sym, _∙_}
+use Rattle.laws.proofs.Settled.{settles}
+use Rattle.faces.specs.Face.{Faced, RunFaced}
+use Rattle.faces.specs.Promises.{SettlesFaced, SettlesRun, Settled}
+
+faced : (f : Faced) → SettlesFaced f
+faced f a b s t u v p q =
+    (p .answers ∙ sym (q .answers), p .keeps ∙ sym (q .keeps), p .leaves ∙ sym (q .leaves))
+
+ran : (f : RunFaced) → SettlesRun f
+ran f m n s t u v o p before q r = (
+  q .counts ∙ sym (r .counts),
+  q .keeps ∙ sym (r .keeps),
+  q .leaves ∙ sym (r .leaves),
+  q .writes ∙ sym (r .writes),
+)
+
+pub settled : Settled
+settled =
+    record {
+      check = λ map store image. settles _;
+      start = λ map store image address groups. faced _;
+      frame = λ map store image bytes frame clock. faced _;
+      power-on = λ map store image bytes. faced _;
+      run = λ map store image bytes es. ran _;
+      look = λ map store bank location. settles _;
+      read = λ frame. settles _;
+      write = λ word. settles _;
+      compose-event = λ sort number primary short groups information scheme. settles _;
+      compose-power = λ short groups. settles _;
+    }

@@ -1,0 +1,16 @@
+-- `faces::answers::writing_word` meets its contract.
+-- Assumes nothing.
+use borrow.Author.Needs.{needs}
+use Rattle.faces.proofs.answers.writing_word.Statement.{statement}
+use Rattle.faces.proofs.answers.writing_word.Tie as tie
+
+pub writing-word-spec : {M : Type 1} → statement M
+writing-word-spec =
+    tie.close
+    (tie.spec
+    (λ c. search needs)
+    (λ c. search needs)
+    (λ c. search needs)
+    (λ c. search needs)
+    (λ c. search needs)
+    (λ c. rw (c .before .writing2 .given .1)))

@@ -1,0 +1,22 @@
+-- `faces::frame_calls::compose_power_face` meets its contract.
+-- Assumes nothing.
+use Rattle.faces.proofs.Composed.{power-not-held}
+use mathlib.Core.Path.{ap, sym, _∙_}
+use borrow.Author.Needs.{needs}
+use Rattle.frames.specs.Values.{writingWord}
+use Rattle.faces.proofs.frame_calls.compose_power_face.Statement.{statement}
+use Rattle.faces.proofs.frame_calls.compose_power_face.Tie as tie
+
+returns : tie.Need-returns
+returns c = c .out-of-range .ensures ∙ ap writingWord (sym (power-not-held _ _ (c .before .if1 .taken)))
+
+pub compose-power-face-spec : {M : Type 1} → statement M
+compose-power-face-spec =
+    tie.close
+    (tie.spec
+    (λ c κs. search needs)
+    returns
+    (λ c. search needs)
+    (λ c κs. search needs)
+    (λ c κs. search needs)
+    (λ c. rw (c .writing-word .ensures, c .before .compose-power .ensures)))

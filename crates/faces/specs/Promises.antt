@@ -1,0 +1,117 @@
+-- The promises about the definitions. They are proved in proofs/: Words, Numbers and Settled.
+-- Assumes nothing.
+use mathlib.Core.Path.{_≡_}
+use mathlib.Core.Bool.{Bool, true, false, _&&_}
+use mathlib.Core.List.{List, [], _∷_, _++_}
+use Prim.Native.Nat.{ℕ, _<_, _^_}
+use lib.ListN.{length, replicate}
+use Rattle.laws.specs.Bits.{bits}
+use Rattle.laws.specs.Numbers.{Test, test}
+use Rattle.laws.specs.Settled.{Settles}
+use Rattle.records.specs.Map.{recordsOf}
+use Rattle.banks.specs.Rules.{checkTests}
+use Rattle.looks.specs.declared.looked.Looked.{Looked}
+use Rattle.hearing.specs.Pairs.{heardAt}
+use Rattle.rooms.specs.Rules.{stateHolds}
+use Rattle.rooms.specs.declared.reply.Reply.{Reply}
+use Rattle.numbers.specs.Numbers.{startTests, heardTests}
+use Rattle.numbers.specs.Promises.{GivenBy}
+use Rattle.entries.specs.declared.entry.Entry.{Entry}
+use Rattle.packing.specs.StateBytes.{flag, stateOf, shapeHolds}
+use Rattle.packing.specs.Promises.{Bytes}
+use Rattle.faces.specs.Answers.{replyWord, lookWord}
+use Rattle.faces.specs.Answers.{checkAnswer, lookAnswer, readAnswer, writeAnswer, eventAnswer, powerAnswer}
+use Rattle.faces.specs.Face.{Faced, frameFace, powerOnFace, startFace, Faces, RunFaced, runFace, RunFaces}
+
+-- ---- an answer as one number
+
+-- number | answered << 8 | answer << 16: each part stands in its bits
+pub record ReplyBack (r : Reply) : Type 0 where
+  pub number : bits (replyWord r) 7 0 ≡ r .number
+  pub answered : bits (replyWord r) 15 8 ≡ flag (r .answered)
+  pub answer : bits (replyWord r) 31 16 ≡ r .answer
+
+abbrev pub RepliesBack : Type 0
+RepliesBack = (r : Reply) → r .number < 256 → r .answer < 256 → ReplyBack r
+
+-- number | width << 8 | offset << 16
+pub record LookBack (l : Looked) : Type 0 where
+  pub number : bits (lookWord l) 7 0 ≡ l .number
+  pub width : bits (lookWord l) 15 8 ≡ l .width
+  pub offset : bits (lookWord l) 31 16 ≡ l .offset
+
+abbrev pub LooksBack : Type 0
+LooksBack = (l : Looked) → l .number < 256 → l .width < 256 → l .offset < 2 ^ 16 → LookBack l
+
+-- ---- the numbers
+
+-- a rule of a state is broken also by bytes that are no state's
+abbrev pub bytesHold : List ℕ → List ℕ → List ℕ → Bool
+bytesHold map store bytes = shapeHolds bytes && stateHolds (recordsOf map) store (stateOf bytes)
+
+-- a later power-on tests 7 to 12
+abbrev pub powerOnTests : List ℕ → List ℕ → ℕ → List ℕ → List Test
+powerOnTests map store kept bytes = checkTests map store kept ++ test 12 (bytesHold map store bytes) ∷ []
+
+-- a frame tests 7 to 12, then what is heard: 1
+abbrev pub frameTests : List ℕ → List ℕ → ℕ → List ℕ → ℕ → ℕ → List Test
+frameTests map store kept bytes frame clock =
+    powerOnTests map store kept bytes ++ heardTests map store (stateOf bytes) (heardAt clock frame)
+
+-- each number is given exactly if every test before its own passes and its own fails
+pub record Numbered (map store image : List ℕ) : Type 0 where
+  pub start : (address groups : ℕ) →
+      GivenBy (startFace map store image address groups .reply .number)
+      (startTests map store (length image) (record { address = address; groups = groups }))
+  pub frame : (bytes : List ℕ) (frame clock : ℕ) →
+      GivenBy (frameFace map store image bytes frame clock .reply .number)
+      (frameTests map store (length image) bytes frame clock)
+  pub power-on : (bytes : List ℕ) →
+      GivenBy (powerOnFace map store image bytes .reply .number) (powerOnTests map store (length image) bytes)
+
+abbrev pub FacesNumbered : Type 0
+FacesNumbered = (map store image : List ℕ) → Numbered map store image
+
+-- a refusal: no answer; these state bytes and this store, byte for byte
+pub record Refuses (f : Faced) (bytes store : List ℕ) : Type 0 where
+  pub unanswered : f .reply .answered ≡ false
+  pub no-answer : f .reply .answer ≡ 0
+  pub state-stays : f .state ≡ bytes
+  pub store-stays : f .store ≡ store
+
+pub record Refused (map store image : List ℕ) : Type 0 where
+  -- a refused start writes all zeros
+  pub start : (address groups : ℕ) → 0 < startFace map store image address groups .reply .number →
+      Refuses (startFace map store image address groups) (replicate 96 0) store
+  pub frame : (bytes : List ℕ) → Bytes bytes → (frame clock : ℕ) →
+      0 < frameFace map store image bytes frame clock .reply .number →
+      Refuses (frameFace map store image bytes frame clock) bytes store
+  pub power-on : (bytes : List ℕ) → Bytes bytes → 0 < powerOnFace map store image bytes .reply .number →
+      Refuses (powerOnFace map store image bytes) bytes store
+
+abbrev pub FacesRefused : Type 0
+FacesRefused = (map store image : List ℕ) → Refused map store image
+
+-- ---- results that meet the same promise are equal
+
+abbrev pub SettlesFaced : Faced → Type 0
+SettlesFaced f = (a b : ℕ) (s t u v : List ℕ) → Faces a s u f → Faces b t v f → (a ≡ b) × (s ≡ t) × (u ≡ v)
+
+abbrev pub SettlesRun : RunFaced → Type 0
+SettlesRun f = (m n : ℕ) (s t u v o p before : List ℕ) → RunFaces m s u o before f → RunFaces n t v p before f →
+    (m ≡ n) × (s ≡ t) × (u ≡ v) × (o ≡ p)
+
+pub record Settled : Type 0 where
+  pub check : (map store image : List ℕ) → Settles (λ (r : ℕ). r ≡ checkAnswer map store image)
+  pub start : (map store image : List ℕ) (address groups : ℕ) → SettlesFaced (startFace map store image address groups)
+  pub frame : (map store image bytes : List ℕ) (frame clock : ℕ) →
+      SettlesFaced (frameFace map store image bytes frame clock)
+  pub power-on : (map store image bytes : List ℕ) → SettlesFaced (powerOnFace map store image bytes)
+  pub run : (map store image bytes : List ℕ) (es : List Entry) → SettlesRun (runFace map store image bytes es)
+  pub look : (map store : List ℕ) (bank location : ℕ) →
+      Settles (λ (r : ℕ). r ≡ lookAnswer map store bank location)
+  pub read : (frame : ℕ) → Settles (λ (r : ℕ). r ≡ readAnswer frame)
+  pub write : (word : ℕ) → Settles (λ (r : ℕ). r ≡ writeAnswer word)
+  pub compose-event : (sort number primary short groups information scheme : ℕ) →
+      Settles (λ (r : ℕ). r ≡ eventAnswer sort number primary short groups information scheme)
+  pub compose-power : (short groups : ℕ) → Settles (λ (r : ℕ). r ≡ powerAnswer short groups)

@@ -1,0 +1,15 @@
+-- `packing::state_bytes::latch_at` meets its contract.
+-- Assumes nothing.
+use borrow.Author.Needs.{needs}
+use Rattle.packing.proofs.state_bytes.latch_at.Statement.{statement}
+use Rattle.packing.proofs.state_bytes.latch_at.Tie as tie
+
+pub latch-at-spec : {M : Type 1} → statement M
+latch-at-spec =
+    tie.close
+    (tie.spec
+    (λ c κs. search needs)
+    (λ c. search needs)
+    (λ c. search needs)
+    (λ c. search needs)
+    (λ c. rw (c .eight-at .ensures)))
