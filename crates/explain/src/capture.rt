@@ -1,11 +1,11 @@
 // The capture, record by record, with what the unit replied.
 ghost use Prim.Native.Nat.{_<_, _≤_};
-use crate::entry::Entry;
-use crate::entry::entry_at;
-use crate::entry::four_bytes;
-use crate::entry::is_broken;
 use crate::output::print;
 use crate::output::print_refusal;
+use entries::Entry;
+use entries::entry_at;
+use entries::four_bytes;
+use entries::is_broken;
 use text::Line;
 use text::say_frame;
 use text::say_refusal;

@@ -1,5 +1,4 @@
 // Shows a capture to a person in words: each frame, what it was, what the unit answered; then the values.
-mod entry; // a record of the capture
 mod output; // a line is written
 mod capture; // record by record
 mod values; // before and after
