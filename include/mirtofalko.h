@@ -1,11 +1,13 @@
 /* Mirtofalko: settings in lighting units (IEC 62386-103), for C99 and later and for C++11 and later.
  *
- *   The state of a unit         96 bytes
- *   Stack, at most              2,048 bytes for any call (x86-64); the deepest is mf_run
- *   Code and constants          about 22,000 bytes (x86-64)
- *   Needs                       memcpy, and nothing else: no heap, no file, no initialisation
- *   Re-entrant                  every call: nothing is kept between calls, and each returns. One unit is stepped by one
- *                               thread at a time; different units, and calls without a unit, need no lock between them
+ *   State of a unit   96 bytes
+ *   Stack             at most 2,048 bytes for any call. Measured on x86-64: mf_check 88, mf_start 280, mf_frame 928,
+ *                     mf_power_on 896, mf_run 1568, mf_look 120, mf_read 288, mf_write 40, mf_compose_event 56,
+ *                     mf_compose_power 24 bytes
+ *   Code              about 22,000 bytes with its constants on x86-64
+ *   Needs             memcpy, and nothing else: no heap, no file, no initialisation
+ *   Re-entrant        every call: it keeps nothing of its own, and it returns. One unit is stepped by one thread at a
+ *                     time; different units, and calls without a unit, need no lock between them
  *
  * A unit is four things that you lend to each call:
  *   map     which values there are: records of 8 bytes, 0 to 64 of them
