@@ -1,5 +1,5 @@
--- What is proved of records and slices: slices one after the other, and what stays of one. Paper 01, "The trace program".
--- Proved in proofs/: Joined, Moved, Settled.
+-- What is proved of records and slices: slices one after the other, and what stays of one.
+-- Paper 01, "The trace program". Proved in proofs/: Joined, Moved and Settled.
 -- Assumes nothing.
 use Prim.Native.Nat.{ℕ, _+_, _-_, _*_, _≤_, _%_}
 use mathlib.Core.Path.{_≡_}

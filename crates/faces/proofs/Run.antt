@@ -10,13 +10,12 @@ use lib.ListN.{length, drop}
 use borrow.Author.Tests.{ne-eqb, not-true, not-false}
 use Rattle.laws.specs.Choice.{if_then_else_}
 use Rattle.laws.specs.Lists.{some}
-use Rattle.laws.specs.Outcome.{Outcome, leaves}
+use Rattle.laws.specs.Outcome.{leaves}
 use Rattle.records.specs.Map.{recordsOf}
 use Rattle.hearing.specs.declared.rooms.Heard.{Heard}
 use Rattle.rooms.specs.Rules.{addressHolds, stateHolds}
 use Rattle.rooms.specs.Reply.{refusing}
 use Rattle.rooms.specs.declared.state.State.{State}
-use Rattle.rooms.specs.declared.reply.Stepped.{Stepped}
 use Rattle.numbers.specs.Numbers.{stepNumber, powerNumber}
 use Rattle.numbers.proofs.Numbers.{tests-in-order}
 use Rattle.unit.specs.Step.{stepOf, powerOnOf}

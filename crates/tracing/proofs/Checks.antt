@@ -72,7 +72,8 @@ module _ (map image store : List ℕ) (s : State) (e : Entry) (n : ℕ)
       step-number heard = tests-in-order map store (length image) .step-powered s heard (omega arith) ∙ sym checked
 
       go : (e : Entry) → isBroken e ≡ false → Gives r store (turnOf map image store s e)
-      go (Entry.Frame clock frame) k = rw (step-number (heardAt clock frame), ne-eqb n 0 some) (record { answer = q; store = refl })
+      go (Entry.Frame clock frame) k =
+          rw (step-number (heardAt clock frame), ne-eqb n 0 some) (record { answer = q; store = refl })
       go Entry.PowerOn k = rw (← checked, ne-eqb n 0 some) (record { answer = q; store = refl })
       go Entry.Broken k = absurd (true≢false k)
 

@@ -1,5 +1,5 @@
--- The bench sheet's P11 and P12 as whole traces: the files' bytes and the records' bytes in, the printed bytes out. And a
--- worked case of unit.adr. Paper 01, "Bench sheet", "The trace program". Proved in proofs/: Bench.
+-- The bench sheet's P11 and P12 as whole traces: the files' bytes and the records' bytes in, the printed bytes out.
+-- And a worked case of unit.adr. Paper 01, "Bench sheet", "The trace program". Proved in proofs/: Bench.
 -- Assumes nothing.
 use Prim.Native.Nat.{ℕ}
 use mathlib.Core.Path.{_≡_}

@@ -1,5 +1,5 @@
 -- What is proved of a trace: one run after the other, slices, how much is written, 13 and the tail, one check, the
--- numbers of the files. Paper 01, "The trace program". Proved in proofs/: Continued, Cutting, Checks, Starts and Settled.
+-- numbers of the files. Paper 01, "The trace program". Proved in proofs/: Continued, Cutting, Checks, Starts, Settled.
 -- Assumes nothing.
 use Prim.Native.Nat.{ℕ, suc, _*_, _<_}
 use mathlib.Core.Path.{_≡_}
