@@ -33,10 +33,5 @@ second_program() {
         && make -s -C second sanitize OUT="$(pwd)/target/second-sanitized"
 }
 
-# c_library: the archive target/staticlib/libmirtofalko.a, and the compiler whose programs link it
-c_library() {
-    if [ "$(uname -m)" = x86_64 ]; then need gcc gcc; else need x86_64-linux-gnu-gcc gcc-x86-64-linux-gnu; fi || return 1
-    said=$(rt staticlib mirtofalko 2>&1) && return 0
-    printf '%s\n' "$said" | tail -n 5
-    return 1
-}
+# c_tools: the compiler whose programs link our archive
+c_tools() { if [ "$(uname -m)" = x86_64 ]; then need gcc gcc; else need x86_64-linux-gnu-gcc gcc-x86-64-linux-gnu; fi; }
