@@ -16,6 +16,7 @@ use Rattle.numbers.specs.Numbers.{startNumber}
 use Rattle.unit.proofs.Numbers.{calls-reply}
 use Rattle.faces.specs.Answers.{refusal, replyWord, lookWord, lookAnswer}
 use Rattle.faces.specs.Face.{thenNumber, startFace, Faces}
+use Rattle.faces.specs.Promises.{FacesNotCut}
 use Rattle.faces.proofs.Faced.{then-some, then-is}
 use Rattle.faces.proofs.Numbers.{faces-refused}
 
@@ -65,3 +66,11 @@ module _ (map store image : List ℕ) (address groups : ℕ) (over : 255 < addre
         keeps = sym (r .state-stays);
         leaves = sym (r .store-stays);
       }
+
+pub faces-not-cut : FacesNotCut
+faces-not-cut map store =
+    record {
+      start = λ image address groups h. no-address map store image address groups h;
+      bank = λ bank location h. no-value map store bank location (λ p q. omega arith);
+      location = λ bank location h. no-value map store bank location (λ p q. omega arith);
+    }

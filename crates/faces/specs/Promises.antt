@@ -1,4 +1,5 @@
--- The promises about the definitions. They are proved in proofs/: Words, Numbers, LowByte and Settled.
+-- The promises about the definitions. They are proved in proofs/: Words, LowByte, Numbers, NoByte
+-- and Settled.
 -- Assumes nothing.
 use mathlib.Core.Path.{_≡_}
 use mathlib.Core.Bool.{Bool, true, false, _&&_}
@@ -27,7 +28,8 @@ use Rattle.packing.specs.StateBytes.{flag, stateOf, shapeHolds}
 use Rattle.packing.specs.Promises.{Bytes}
 use Rattle.faces.specs.Answers.{replyWord, lookWord, writtenOf, source}
 use Rattle.faces.specs.Answers.{checkAnswer, lookAnswer, readAnswer, writeAnswer, eventAnswer, powerAnswer}
-use Rattle.faces.specs.Face.{Faced, frameFace, powerOnFace, startFace, Faces, RunFaced, runFace, RunFaces}
+use Rattle.faces.specs.Face.{Faced, thenNumber, frameFace, powerOnFace, startFace, Faces}
+use Rattle.faces.specs.Face.{RunFaced, runFace, RunFaces}
 
 -- ---- an answer as one number
 
@@ -108,6 +110,18 @@ pub record Numbered (map store image : List ℕ) : Type 0 where
 
 abbrev pub FacesNumbered : Type 0
 FacesNumbered = (map store image : List ℕ) → Numbered map store image
+
+-- a number that does not fit a byte is refused, and not cut: 7 to 11, then 6 of a start, 14 of a look
+pub record NotCut (map store : List ℕ) : Type 0 where
+  pub start : (image : List ℕ) (address groups : ℕ) → 255 < address →
+      startFace map store image address groups .reply .number ≡ thenNumber map store (length image) 6
+  pub bank : (bank location : ℕ) → 255 < bank →
+      lookNumber map store bank location ≡ thenNumber map store (length store) 14
+  pub location : (bank location : ℕ) → 255 < location →
+      lookNumber map store bank location ≡ thenNumber map store (length store) 14
+
+abbrev pub FacesNotCut : Type 0
+FacesNotCut = (map store : List ℕ) → NotCut map store
 
 -- a refusal: no answer; these state bytes and this store, byte for byte
 pub record Refuses (f : Faced) (bytes store : List ℕ) : Type 0 where
