@@ -1,24 +1,35 @@
-/* Mirtofalko: settings in lighting units (IEC 62386-103), for C11 and C++.
+/* Mirtofalko: settings in lighting units (IEC 62386-103), for C99 and later and for C++11 and later.
+ *
+ *   State of a unit   96 bytes
+ *   Stack             at most 2,048 bytes for any call. Measured on x86-64: mf_check 88, mf_start 296, mf_frame 928,
+ *                     mf_power_on 880, mf_run 1552, mf_look 120, mf_read 288, mf_write 40, mf_compose_event 56,
+ *                     mf_compose_power 24 bytes
+ *   Code              about 21,200 bytes with its constants on x86-64
+ *   Needs             memcpy, and nothing else: no heap, no file, no initialisation
+ *   Re-entrant        every call: it keeps nothing of its own, and it returns. One unit is stepped by one thread at a
+ *                     time; different units, and calls without a unit, need no lock between them
  *
  * A unit is four things that you lend to each call:
  *   map     which values there are: records of 8 bytes, 0 to 64 of them
  *   store   the values' bytes, 0 to 4,096; the calls change it
  *   image   the reset image, as long as the store
  *   state   96 bytes; the calls change it, and you only keep it
- * A record of the map: bank, first location, width 1..8, kind, lockable (0/1), zero, store offset (two bytes, high
- * first). Kinds: 0 ROM, 1 RAM-RO, 2 RAM-RW, 3 NVM-RO, 4 NVM-RW. A value's bytes stand in the store from its offset on,
- * most significant byte first.
+ * A record of the map: bank, first location, width 1..8, kind (below), lockable (0/1), zero, store offset (two bytes,
+ * high first). A value's bytes stand in the store from its offset on, most significant byte first.
+ * `mf_unit` (below) holds them side by side, so that a call names the unit only.
  *
- * Every call is proved: for all inputs its answer, the state and the store are what the definitions in
- * crates/mirtofalko/specs say. It needs no other library, no heap and no initialisation, keeps nothing between calls,
- * and returns.
+ * Every call is proved: for all inputs its answer, the state and the store are what the definitions say. The
+ * definitions stand in crates/faces/specs.
  *
  * What no call can check, and you must see to:
  *   - Each pointer is good for as many bytes as the length beside it says, and is not null, also for the length 0.
- *   - No two of map, store, image, state, records and output overlap in one call.
- *   - One unit is stepped by one thread at a time. Different units need no lock between them.
+ *   - What a call changes (state, output, and the store where it is not const) overlaps nothing else that is lent to
+ *     that call. Two inputs that are only read may be one buffer.
+ *   - A state comes from an accepted mf_start. Zeros are a state too, that of a unit with address 0: a refused start
+ *     leaves them, so do not step it; and a state that was never started answers as address 0.
  *
- * Today's archive (target/staticlib/libmirtofalko.a, made by `rt staticlib mirtofalko`) links into x86-64 programs only.
+ * `./mirto install PREFIX` puts the archive libmirtofalko.a, this header and a file for pkg-config below PREFIX.
+ * Today's archive links into x86-64 programs only.
  */
 #ifndef MIRTOFALKO_H
 #define MIRTOFALKO_H
@@ -26,41 +37,142 @@
 #include <stddef.h>
 #include <stdint.h>
 
+/* The interface counts up where a call, an answer or the state's bytes change; then you compile anew. */
+#define MF_INTERFACE 2
+#define MF_VERSION "1.0"
+#define MF_VERSION_MAJOR 1
+#define MF_VERSION_MINOR 0
+
 #ifdef __cplusplus
 extern "C" {
 #endif
 
 /* The numbers. 0 is no refusal. A refused call changes neither state nor store; only a refused start writes a state,
- * all zeros. Where several rules are broken the first in the call's order gives its number. */
+ * all zeros. Where several rules are broken the first in the call's order gives its number. mf_text says each. */
 enum {
     MF_OK = 0,
-    MF_FRAME = 1,          /* frame 16,777,216 or more */
-    MF_ADDRESS_BYTE = 2,   /* reserved address byte */
-    MF_INSTANCE_BYTE = 3,  /* reserved instance byte */
-    MF_EVENT = 4,          /* reserved event */
-    MF_BLANK_FIELD = 5,    /* power event with a non-zero blank field */
-    MF_FIELD = 6,          /* field out of range: writer, composers, start */
-    MF_MAP_LENGTH = 7,     /* map not a multiple of 8 bytes, or over 512 */
-    MF_RECORD = 8,         /* a record's own fields break the rules */
-    MF_RECORD_ORDER = 9,   /* records out of order or overlapping */
-    MF_PLACES = 10,        /* store and image lengths differ, exceed 4,096, or a place is outside or shared */
-    MF_BANK = 11,          /* a bank rule of 0x00, 0x02 or bank 0 broken */
-    MF_STATE = 12,         /* a rule of a state broken, or 96 bytes that are no state */
-    MF_TRACE_RECORD = 13,  /* trace record unfinished or of unknown kind */
-    MF_NO_VALUE = 14       /* no value begins there */
+    MF_BAD_FRAME = 1,          /* frame 16,777,216 or more */
+    MF_BAD_ADDRESS_BYTE = 2,   /* reserved address byte */
+    MF_BAD_INSTANCE_BYTE = 3,  /* reserved instance byte */
+    MF_BAD_EVENT = 4,          /* reserved event */
+    MF_BAD_BLANK_FIELD = 5,    /* power event with a non-zero blank field */
+    MF_BAD_FIELD = 6,          /* field out of range: writer, composer, start */
+    MF_BAD_MAP_LENGTH = 7,     /* map not a multiple of 8 bytes, or over 512 */
+    MF_BAD_RECORD = 8,         /* a record's own fields break the rules */
+    MF_BAD_RECORD_ORDER = 9,   /* records out of order or overlapping */
+    MF_BAD_PLACES = 10,        /* store and image lengths differ, exceed 4,096, or a place is outside or shared */
+    MF_BAD_BANK = 11,          /* a bank rule of 0x00, 0x02 or bank 0 broken */
+    MF_BAD_STATE = 12,         /* a rule of a state broken; also 96 bytes that are no state */
+    MF_BAD_TRACE_RECORD = 13,  /* trace record unfinished or of unknown kind */
+    MF_BAD_LOCATION = 14       /* no value begins there */
 };
 
 enum {
     MF_STATE_BYTES = 96,  /* a state */
-    MF_RECORD_BYTES = 8,  /* a record of mf_run: clock (4, high byte first), kind 0 frame or 1 power-on, frame (3) */
+    MF_RECORD_BYTES = 8,  /* a record of mf_run: clock (4, high byte first), kind, frame (3, high byte first) */
     MF_OUTPUT_BYTES = 4,  /* what mf_run writes for it: number, answered 0/1, answer or 0, zero */
-    MF_NO_ADDRESS = 255   /* the address of a unit that has none */
+    MF_NO_ADDRESS = 255,  /* the address of a unit that has none */
+    MF_NO_GROUP = 255     /* the primary group of an instance that has none */
 };
 
-/* The answer of a call of the unit: number | answered << 8 | answer << 16. */
-static inline uint32_t mf_number(uint32_t answer) { return answer & 0xFF; }
+/* Kinds of value in the map. Only MF_RAM_RW and MF_NVM_RW are writable or may be lockable. */
+enum { MF_ROM = 0, MF_RAM_RO = 1, MF_RAM_RW = 2, MF_NVM_RO = 3, MF_NVM_RW = 4 };
+
+/* Kinds of record for mf_run. Clock and frame of a power-on are not looked at. */
+enum { MF_RECORD_FRAME = 0, MF_RECORD_POWER_ON = 1 };
+
+/* Kinds of message. An event of scheme s is MF_EVENT + s. */
+enum { MF_COMMAND = 0, MF_SPECIAL = 1, MF_EVENT = 2, MF_POWER_CYCLE = 7 };
+
+/* Schemes of an event, by their two fields; and the scheme as shipped, which is 0. */
+enum {
+    MF_TYPE_AND_NUMBER = 0,
+    MF_SHORT_AND_TYPE = 1,
+    MF_SHORT_AND_NUMBER = 2,
+    MF_GROUP_AND_TYPE = 3,   /* the lowest device group */
+    MF_PRIMARY_AND_TYPE = 4, /* the primary instance group */
+    MF_AS_SHIPPED = 255
+};
+
+/* Kinds of address: the first two hold a number, 0..63 and 0..31. */
+enum { MF_TO_SHORT = 0, MF_TO_GROUP = 1, MF_TO_UNADDRESSED = 2, MF_TO_ALL = 3 };
+
+/* Kinds of target: the first six hold a number 0..31. */
+enum {
+    MF_AT_NUMBER = 1,           /* instance number */
+    MF_AT_GROUP = 2,            /* instance group */
+    MF_AT_TYPE = 3,             /* instance type */
+    MF_FEATURE_AT_NUMBER = 4,
+    MF_FEATURE_AT_GROUP = 5,
+    MF_FEATURE_AT_TYPE = 6,
+    MF_FEATURE_AT_ALL = 7,      /* feature broadcast */
+    MF_FEATURE_AT_DEVICE = 8,   /* device feature */
+    MF_FEATURE_AT_INSTANCES = 9, /* feature at instance broadcast */
+    MF_AT_DEVICE = 10,
+    MF_AT_INSTANCES = 11        /* instance broadcast */
+};
+
+/* ---- answers ----
+ *
+ * One rule for every answer but the count of mf_run: its low byte is the number. Where that is not 0 the rest is 0. */
+static inline uint32_t mf_number(uint64_t answer) { return (uint32_t)(answer & 0xFF); }
+
+/* A number as a sentence. */
+static inline const char *mf_text(uint32_t number) {
+    switch (number) {
+    case MF_OK: return "no refusal";
+    case MF_BAD_FRAME: return "frame 16,777,216 or more";
+    case MF_BAD_ADDRESS_BYTE: return "reserved address byte";
+    case MF_BAD_INSTANCE_BYTE: return "reserved instance byte";
+    case MF_BAD_EVENT: return "reserved event";
+    case MF_BAD_BLANK_FIELD: return "power event with a non-zero blank field";
+    case MF_BAD_FIELD: return "field out of range: writer, composer, start";
+    case MF_BAD_MAP_LENGTH: return "map not a multiple of 8 bytes, or over 512";
+    case MF_BAD_RECORD: return "a record's own fields break the rules";
+    case MF_BAD_RECORD_ORDER: return "records out of order or overlapping";
+    case MF_BAD_PLACES: return "store and image lengths differ, exceed 4,096, or a place is outside or shared";
+    case MF_BAD_BANK: return "a bank rule of 0x00, 0x02 or bank 0 broken";
+    case MF_BAD_STATE: return "a rule of a state broken";
+    case MF_BAD_TRACE_RECORD: return "trace record unfinished or of unknown kind";
+    case MF_BAD_LOCATION: return "no value begins there";
+    default: return "no such number";
+    }
+}
+
+/* Of mf_start, mf_frame, mf_power_on: number | answered << 8 | answer << 16. Only a frame is answered. */
 static inline uint32_t mf_answered(uint32_t answer) { return answer >> 8 & 1; }
-static inline uint8_t mf_answer(uint32_t answer) { return (uint8_t)(answer >> 16); }
+static inline uint8_t mf_answer(uint32_t answer) { return (uint8_t)(answer >> 16 & 0xFF); }
+
+/* Of mf_look: number | width << 8 | offset << 16. */
+static inline uint32_t mf_width(uint32_t look) { return look >> 8 & 0xFF; }
+static inline uint32_t mf_offset(uint32_t look) { return look >> 16; }
+
+/* Of mf_write, mf_compose_event, mf_compose_power: number | frame << 8. */
+static inline uint32_t mf_frame_of(uint32_t written) { return written >> 8; }
+
+/* Of mf_read: a message word, eight bytes from high to low: 0, kind, then by kind
+ *   command       address kind and number, target kind and number, opcode, 0
+ *   special       its number 0..15, its two free bytes, 0, 0, 0
+ *   event         its two fields, information (2, high first), 0, 0
+ *   power cycle   group present 0/1, group, short address present 0/1, short address, 0, 0
+ * A refused reading's word is its number alone. */
+static inline uint8_t mf_byte(uint64_t word, unsigned place) { return (uint8_t)(word >> (56 - 8 * place) & 0xFF); }
+static inline uint8_t mf_kind(uint64_t word) { return mf_byte(word, 1); }
+static inline uint8_t mf_address_kind(uint64_t command) { return mf_byte(command, 2); }
+static inline uint8_t mf_address_number(uint64_t command) { return mf_byte(command, 3); }
+static inline uint8_t mf_target_kind(uint64_t command) { return mf_byte(command, 4); }
+static inline uint8_t mf_target_number(uint64_t command) { return mf_byte(command, 5); }
+static inline uint8_t mf_opcode(uint64_t command) { return mf_byte(command, 6); }
+static inline uint8_t mf_special_number(uint64_t special) { return mf_byte(special, 2); }
+static inline uint8_t mf_special_first(uint64_t special) { return mf_byte(special, 3); }
+static inline uint8_t mf_special_second(uint64_t special) { return mf_byte(special, 4); }
+static inline uint8_t mf_event_first(uint64_t event) { return mf_byte(event, 2); }
+static inline uint8_t mf_event_second(uint64_t event) { return mf_byte(event, 3); }
+static inline uint16_t mf_information(uint64_t event) { return (uint16_t)(event >> 16 & 0xFFFF); }
+static inline uint8_t mf_power_has_group(uint64_t power) { return mf_byte(power, 2); }
+static inline uint8_t mf_power_group(uint64_t power) { return mf_byte(power, 3); }
+static inline uint8_t mf_power_has_short(uint64_t power) { return mf_byte(power, 4); }
+static inline uint8_t mf_power_short(uint64_t power) { return mf_byte(power, 5); }
 
 /* ---- the unit ----
  *
@@ -69,15 +181,15 @@ static inline uint8_t mf_answer(uint32_t answer) { return (uint8_t)(answer >> 16
  * 29 latched (0/1); 30 its bank; 31 its first location; 32..39 latched bytes; 40..95 zero, kept for what comes later.
  * You may keep them over a reset of your processor: a later call tests that they are a state of this map and store. */
 
-/* Map, store and image alone: 7 to 11, or 0. */
+/* Map, store and image alone: 7 to 11, or 0. Store and image may be one buffer here. */
 uint32_t mf_check(const uint8_t *map, size_t map_length, const uint8_t *store, size_t store_length,
                   const uint8_t *image, size_t image_length);
 
-/* Makes the state of a unit, and acts as a power-on: lock bytes 0xFF, other RAM-RW values from the image. Whatever stood
- * in `state` is not looked at.
+/* Makes the state of a unit, and acts as a power-on: lock bytes 0xFF, other RAM-RW values from the image. Whatever
+ * stood in `state` is not looked at. A refused start leaves zeros there, a state of address 0: do not step it.
  * 7 to 11, then 6 (the address is not 0..63 or 255). */
 uint32_t mf_start(const uint8_t *map, size_t map_length, uint8_t *store, size_t store_length, const uint8_t *image,
-                  size_t image_length, uint8_t address, uint32_t groups, uint8_t state[MF_STATE_BYTES]);
+                  size_t image_length, uint32_t address, uint32_t groups, uint8_t state[MF_STATE_BYTES]);
 
 /* A frame of 24 bits was heard at `clock` (milliseconds, may run over). Any frame may be handed in, whoever it is for.
  * If it answers, send the answer as a backward frame.
@@ -92,44 +204,97 @@ uint32_t mf_power_on(const uint8_t *map, size_t map_length, uint8_t *store, size
 
 /* Many records, each as mf_frame or mf_power_on would do it, with one check of map, store, image and state for all. It
  * takes the whole records of `records`, as many as `output` has room for, and writes 4 bytes for each; the rest of
- * `output` stays. It returns how many records were answered.
+ * `output` stays. It returns how many records were answered. An unfinished record at the end is left to you, to be
+ * handed in again with the bytes that it lacks: it gives no 13.
  * In the output: 7 to 12; 13 for a record of unknown kind, which ends the run and is the last one answered. */
 size_t mf_run(const uint8_t *map, size_t map_length, uint8_t *store, size_t store_length, const uint8_t *image,
               size_t image_length, uint8_t state[MF_STATE_BYTES], const uint8_t *records, size_t records_length,
               uint8_t *output, size_t output_length);
 
-/* Where the value stands that begins at the bank and location: number | width << 8 | offset << 16. Its bytes are
- * store[offset] on. There is no image: the store stands for it. A refusal has width and offset 0.
- * 7 to 11, then 14. */
-uint32_t mf_look(const uint8_t *map, size_t map_length, const uint8_t *store, size_t store_length, uint8_t bank,
-                 uint8_t location);
+/* Where the value stands that begins at the bank and location: its bytes are store[mf_offset] on, mf_width of them.
+ * There is no image: the store stands for it.
+ * 7 to 11, then 14, which every bank and location over 255 gives too. */
+uint32_t mf_look(const uint8_t *map, size_t map_length, const uint8_t *store, size_t store_length, uint32_t bank,
+                 uint32_t location);
+
+/* ---- the unit as one thing ----
+ *
+ * Begin with zeros (a static one has them) and set the parts by their names. A part that is null has to have the length
+ * 0, and is empty: so your code stays as it is where a later interface lends one part more. */
+typedef struct mf_unit {
+    const uint8_t *map;
+    size_t map_length;
+    uint8_t *store;
+    size_t store_length;
+    const uint8_t *image;
+    size_t image_length;
+    uint8_t *state; /* MF_STATE_BYTES of them; never null */
+} mf_unit;
+
+/* A part that is not null, for one that is read and for one that is changed. */
+static inline const uint8_t *mf_lent(const uint8_t *part) {
+    static const uint8_t none[1] = {0};
+    return part ? part : none;
+}
+static inline uint8_t *mf_lent_to_change(uint8_t *part) {
+    static uint8_t none[1] = {0};
+    return part ? part : none;
+}
+
+static inline uint32_t mf_unit_check(const mf_unit *unit) {
+    return mf_check(mf_lent(unit->map), unit->map_length, mf_lent(unit->store), unit->store_length,
+                    mf_lent(unit->image), unit->image_length);
+}
+
+static inline uint32_t mf_unit_start(const mf_unit *unit, uint32_t address, uint32_t groups) {
+    return mf_start(mf_lent(unit->map), unit->map_length, mf_lent_to_change(unit->store), unit->store_length,
+                    mf_lent(unit->image), unit->image_length, address, groups, unit->state);
+}
+
+static inline uint32_t mf_unit_hear(const mf_unit *unit, uint32_t frame, uint32_t clock) {
+    return mf_frame(mf_lent(unit->map), unit->map_length, mf_lent_to_change(unit->store), unit->store_length,
+                    mf_lent(unit->image), unit->image_length, unit->state, frame, clock);
+}
+
+static inline uint32_t mf_unit_power_on(const mf_unit *unit) {
+    return mf_power_on(mf_lent(unit->map), unit->map_length, mf_lent_to_change(unit->store), unit->store_length,
+                       mf_lent(unit->image), unit->image_length, unit->state);
+}
+
+static inline size_t mf_unit_run(const mf_unit *unit, const uint8_t *records, size_t records_length, uint8_t *output,
+                                 size_t output_length) {
+    return mf_run(mf_lent(unit->map), unit->map_length, mf_lent_to_change(unit->store), unit->store_length,
+                  mf_lent(unit->image), unit->image_length, unit->state, mf_lent(records), records_length,
+                  mf_lent_to_change(output), output_length);
+}
+
+static inline uint32_t mf_unit_look(const mf_unit *unit, uint32_t bank, uint32_t location) {
+    return mf_look(mf_lent(unit->map), unit->map_length, mf_lent(unit->store), unit->store_length, bank, location);
+}
+
+/* The bytes that a look found, mf_width(look) of them. */
+static inline const uint8_t *mf_unit_bytes(const mf_unit *unit, uint32_t look) {
+    return mf_lent(unit->store) + mf_offset(look);
+}
 
 /* ---- frames, without a unit ---- */
 
-/* What a frame says, as a message word of eight bytes, from high to low: number, kind, then by kind
- *   0 command         address kind (0 short, 1 group, 2 unaddressed, 3 broadcast) and number,
- *                     target kind (1 to 11, see below) and number, opcode, 0
- *   1 special         its number 0..15, its two free bytes, 0, 0, 0
- *   2 to 6 event      of scheme 0 to 4: its two fields, information (2, high first), 0, 0
- *   7 power cycle     group present 0/1, group, short address present 0/1, short address, 0, 0
- * Target kinds: 1 instance number, 2 instance group, 3 instance type; 4, 5, 6 feature at these; 7 feature broadcast,
- * 8 device feature, 9 feature at instance broadcast, 10 device, 11 instance broadcast.
- * A refusal is its number and seven zero bytes: 1 to 5. */
+/* What a frame says, as a message word (above).
+ * 1 to 5. */
 uint64_t mf_read(uint32_t frame);
 
-/* The frame of a message word: number << 24 | frame. What mf_read gave writes back to its frame.
- * 6: no message has the word, or a field is out of range; the frame is then 0. */
+/* The frame of a message word. What mf_read gave writes back to its frame.
+ * 6: no message has the word, or a field is out of range. A refused reading's word is none. */
 uint32_t mf_write(uint64_t word);
 
-/* An event: number << 24 | frame. Type and number 0..31, primary group 0..31 or 255, short address 0..63 or 255, 32 group
- * bits, information 0..1023, scheme 0..4, or 255 for as shipped, which is 0. A scheme whose field is missing falls back
- * to 0.
- * 6: a field is out of range, also one that the scheme does not use; the frame is then 0. */
+/* An event. Type and number 0..31, primary group 0..31 or 255, short address 0..63 or 255, 32 group bits, information
+ * 0..1023, scheme 0..4, or 255 for as shipped. A scheme whose field is missing falls back to 0.
+ * 6: a field is out of range, also one that the scheme does not use. */
 uint32_t mf_compose_event(uint32_t type, uint32_t number, uint32_t primary, uint32_t short_address, uint32_t groups,
                           uint32_t information, uint32_t scheme);
 
-/* A power event, from a short address (0..63 or 255) and 32 group bits: number << 24 | frame.
- * 6: the short address is out of range; the frame is then 0. */
+/* A power event, from a short address (0..63 or 255) and 32 group bits.
+ * 6: the short address is out of range. */
 uint32_t mf_compose_power(uint32_t short_address, uint32_t groups);
 
 #ifdef __cplusplus

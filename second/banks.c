@@ -30,7 +30,7 @@ Value record_at(const Lent *lent, size_t index)
     return value;
 }
 
-bool value_holding(const Lent *lent, uint8_t bank, uint8_t location,
+bool value_holding(const Lent *lent, uint32_t bank, uint32_t location,
                    Value *value)
 {
     for (size_t i = 0; i < record_count(lent); i++) {
@@ -44,7 +44,7 @@ bool value_holding(const Lent *lent, uint8_t bank, uint8_t location,
     return false;
 }
 
-bool value_beginning(const Lent *lent, uint8_t bank, uint8_t location,
+bool value_beginning(const Lent *lent, uint32_t bank, uint32_t location,
                      Value *value)
 {
     Value found;
@@ -269,7 +269,7 @@ uint32_t second_check(const uint8_t *map, size_t map_len, const uint8_t *store,
 
 /* A call without an image takes the store for it. */
 uint32_t second_look(const uint8_t *map, size_t map_len, const uint8_t *store,
-                     size_t store_len, uint8_t bank, uint8_t location)
+                     size_t store_len, uint32_t bank, uint32_t location)
 {
     const Lent lent = {map, map_len, store, store_len, store, NULL};
     Value value;

@@ -41,9 +41,9 @@ size_t record_count(const Lent *lent);
 Value record_at(const Lent *lent, size_t index);
 
 /* The value that begins at, or holds, a location; false where none does. */
-bool value_beginning(const Lent *lent, uint8_t bank, uint8_t location,
+bool value_beginning(const Lent *lent, uint32_t bank, uint32_t location,
                      Value *value);
-bool value_holding(const Lent *lent, uint8_t bank, uint8_t location,
+bool value_holding(const Lent *lent, uint32_t bank, uint32_t location,
                    Value *value);
 
 /* Some record has that bank. */

@@ -36,7 +36,7 @@ static unsigned class_of_refusal(unsigned refusal)
 /* The class of a message word. */
 static unsigned class_of_word(uint64_t word)
 {
-    unsigned refusal = (unsigned)(word >> 56);
+    unsigned refusal = (unsigned)(word & 0xFF);
     unsigned kind = (unsigned)(word >> 48 & 0xFF);
     unsigned address_kind = (unsigned)(word >> 40 & 0xFF);
     if (refusal != 0) {

@@ -225,7 +225,7 @@ uint64_t second_read(uint32_t frame)
 {
     Message message = message_of_frame(frame);
     if (message.refusal != 0) {
-        return (uint64_t)message.refusal << 56;
+        return message.refusal;
     }
     switch (message.kind) {
     case COMMAND:
@@ -239,10 +239,15 @@ uint64_t second_read(uint32_t frame)
     }
 }
 
-/* number << 24 | frame */
+/* number | frame << 8, of a frame and of a refusal */
+static uint32_t written(uint32_t frame)
+{
+    return frame << 8;
+}
+
 static uint32_t out_of_range(void)
 {
-    return (uint32_t)FIELD_OUT_OF_RANGE << 24;
+    return FIELD_OUT_OF_RANGE;
 }
 
 /* The address byte of an address; false: 6. */
@@ -284,7 +289,7 @@ static uint32_t write_command(const uint8_t bytes[8])
         || !write_target(bytes[4], bytes[5], &target) || bytes[7] != 0) {
         return out_of_range();
     }
-    return address << 16 | target << 8 | bytes[6];
+    return written(address << 16 | target << 8 | bytes[6]);
 }
 
 static uint32_t write_special(const uint8_t bytes[8])
@@ -292,13 +297,13 @@ static uint32_t write_special(const uint8_t bytes[8])
     if (bytes[2] > 15 || bytes[5] != 0 || bytes[6] != 0 || bytes[7] != 0) {
         return out_of_range();
     }
-    return 0xC10000u | (uint32_t)bytes[2] << 17 | (uint32_t)bytes[3] << 8
-           | bytes[4];
+    return written(0xC10000u | (uint32_t)bytes[2] << 17
+                   | (uint32_t)bytes[3] << 8 | bytes[4]);
 }
 
 /* The event of a scheme, its fields in range. */
-static uint32_t event_frame(uint32_t scheme, uint32_t high_field,
-                            uint32_t low_field, uint32_t information)
+static uint32_t written_event(uint32_t scheme, uint32_t high_field,
+                              uint32_t low_field, uint32_t information)
 {
     static const uint32_t scheme_bits[5] = {
         0x808000, /* 10 and 1: type and instance number */
@@ -307,8 +312,8 @@ static uint32_t event_frame(uint32_t scheme, uint32_t high_field,
         0x800000, /* 10 and 0: device group and type */
         0xC00000  /* 11 and 0: instance group and type */
     };
-    return scheme_bits[scheme] | high_field << 17 | low_field << 10
-           | information;
+    return written(scheme_bits[scheme] | high_field << 17 | low_field << 10
+                   | information);
 }
 
 static uint32_t write_event(const uint8_t bytes[8])
@@ -320,7 +325,7 @@ static uint32_t write_event(const uint8_t bytes[8])
         || bytes[6] != 0 || bytes[7] != 0) {
         return out_of_range();
     }
-    return event_frame(scheme, bytes[2], bytes[3], information);
+    return written_event(scheme, bytes[2], bytes[3], information);
 }
 
 /* A field that is present has its limit; one that is not is zero. */
@@ -336,8 +341,9 @@ static uint32_t write_power_cycle(const uint8_t bytes[8])
         || bytes[7] != 0) {
         return out_of_range();
     }
-    return (uint32_t)POWER_CYCLE_BITS | (uint32_t)bytes[2] << 12
-           | (uint32_t)bytes[3] << 7 | (uint32_t)bytes[4] << 6 | bytes[5];
+    return written((uint32_t)POWER_CYCLE_BITS | (uint32_t)bytes[2] << 12
+                   | (uint32_t)bytes[3] << 7 | (uint32_t)bytes[4] << 6
+                   | bytes[5]);
 }
 
 uint32_t second_write(uint64_t word)
@@ -399,15 +405,15 @@ uint32_t second_compose_event(uint32_t type, uint32_t number, uint32_t primary,
     }
     switch (scheme_in_use(scheme, primary, short_address, groups)) {
     case 1: /* short address and type */
-        return event_frame(1, short_address, type, information);
+        return written_event(1, short_address, type, information);
     case 2: /* short address and number */
-        return event_frame(2, short_address, number, information);
+        return written_event(2, short_address, number, information);
     case 3: /* lowest device group and type */
-        return event_frame(3, lowest_group(groups), type, information);
+        return written_event(3, lowest_group(groups), type, information);
     case 4: /* primary group and type */
-        return event_frame(4, primary, type, information);
+        return written_event(4, primary, type, information);
     default: /* type and number */
-        return event_frame(0, type, number, information);
+        return written_event(0, type, number, information);
     }
 }
 
@@ -424,5 +430,5 @@ uint32_t second_compose_power(uint32_t short_address, uint32_t groups)
     if (short_address != 255) {
         frame |= 1u << 6 | short_address;
     }
-    return frame;
+    return written(frame);
 }

@@ -47,7 +47,7 @@ static const uint8_t wide_map[] = {
     9, 0xFD, 2, 4, 0, 0, 0, 27};
 enum { WIDE_STORE = 29 };
 
-static uint32_t start_bench(Bench *bench, uint8_t address, uint32_t groups)
+static uint32_t start_bench(Bench *bench, uint32_t address, uint32_t groups)
 {
     bench->clock = 1000;
     return second_start(bench->map, bench->map_len, bench->store,
@@ -147,27 +147,28 @@ static void bench_reader(void)
            "P1 ENABLE to short 5");
     expect(second_read(0xFFFE3C) == UINT64_C(0x000003000A003C00),
            "P2 broadcast READ");
-    expect(second_read(0xFEE001) == UINT64_C(5) << 56, "P10 refusal 5");
+    expect(second_read(0xFEE001) == 5, "P10 refusal 5");
     expect(second_read(0xFEF1C5) == UINT64_C(0x0007010301050000),
            "P8 reads back");
     expect(second_read(0xFEE000) == UINT64_C(0x0007000000000000),
            "P9 reads back");
 }
 
+/* number | frame << 8 */
 static void bench_composer(void)
 {
-    expect(second_compose_event(1, 2, 255, 255, 0, 5, 0) == 0x828805,
+    expect(second_compose_event(1, 2, 255, 255, 0, 5, 0) == 0x82880500,
            "P3 scheme 0");
-    expect(second_compose_event(3, 0, 255, 5, 0, 0x155, 1) == 0x0A0D55,
+    expect(second_compose_event(3, 0, 255, 5, 0, 0x155, 1) == 0x0A0D5500,
            "P4 scheme 1");
-    expect(second_compose_event(0, 31, 255, 63, 0, 1023, 2) == 0x7EFFFF,
+    expect(second_compose_event(0, 31, 255, 63, 0, 1023, 2) == 0x7EFFFF00,
            "P5 scheme 2");
-    expect(second_compose_event(4, 0, 255, 255, 0x280, 0, 3) == 0x8E1000,
+    expect(second_compose_event(4, 0, 255, 255, 0x280, 0, 3) == 0x8E100000,
            "P6 scheme 3");
-    expect(second_compose_event(0, 0, 31, 255, 0, 1, 4) == 0xFE0001,
+    expect(second_compose_event(0, 0, 31, 255, 0, 1, 4) == 0xFE000100,
            "P7 scheme 4");
-    expect(second_compose_power(5, 1u << 3) == 0xFEF1C5, "P8 power");
-    expect(second_compose_power(255, 0) == 0xFEE000, "P9 neither");
+    expect(second_compose_power(5, 1u << 3) == 0xFEF1C500, "P8 power");
+    expect(second_compose_power(255, 0) == 0xFEE00000, "P9 neither");
 }
 
 static const uint32_t p11_frames[9] = {0x0BFE15, 0x0BFE15, 0xC13102,
@@ -222,20 +223,20 @@ static void read_and_write(void)
     for (uint32_t frame = 0; frame < 0x1000000; frame++) {
         uint64_t word = second_read(frame);
         uint32_t back = second_write(word);
-        uint32_t wanted = word >> 56 == 0 ? frame : 0x06000000u;
+        uint32_t wanted = (word & 0xFF) == 0 ? frame << 8 : 6;
         if (back != wanted) {
             unlike++;
         }
     }
     expect(unlike == 0, "every frame that reads writes back to itself");
-    expect(second_read(0x1000000) == UINT64_C(1) << 56, "reader 1");
-    expect(second_read(0xFFFFFFFF) == UINT64_C(1) << 56, "reader 1, largest");
-    expect(second_read(0xE1FE15) == UINT64_C(2) << 56, "reader 2");
-    expect(second_read(0xFB4000) == UINT64_C(2) << 56, "reader 2 before 3");
-    expect(second_read(0x014000) == UINT64_C(3) << 56, "reader 3");
-    expect(second_read(0xC08000) == UINT64_C(4) << 56, "reader 4");
-    expect(second_read(0xFEC000) == UINT64_C(4) << 56, "bit 13 clear: 4");
-    expect(second_read(0xFEE080) == UINT64_C(5) << 56, "blank group: 5");
+    expect(second_read(0x1000000) == 1, "reader 1");
+    expect(second_read(0xFFFFFFFF) == 1, "reader 1, largest");
+    expect(second_read(0xE1FE15) == 2, "reader 2");
+    expect(second_read(0xFB4000) == 2, "reader 2 before 3");
+    expect(second_read(0x014000) == 3, "reader 3");
+    expect(second_read(0xC08000) == 4, "reader 4");
+    expect(second_read(0xFEC000) == 4, "bit 13 clear: 4");
+    expect(second_read(0xFEE080) == 5, "blank group: 5");
 }
 
 /* Writer (6): any number in the message beyond its field's width. */
@@ -269,19 +270,21 @@ static void writer_ranges(void)
         UINT64_C(0x0007000000010000), /* absent short address is 0 */
         UINT64_C(0x0007000000000001), /* unused byte of a power cycle */
         UINT64_C(0x0008000000000000), /* kind 8 */
-        UINT64_C(0x0100000001000000), /* a refusal */
+        UINT64_C(0x0100000001000000), /* the highest byte is 0 */
+        UINT64_C(0x0000000000000001), /* a refusal */
+        UINT64_C(0xFFFFFFFFFFFFFFFF), /* no message */
     };
     for (size_t i = 0; i < sizeof refused / sizeof refused[0]; i++) {
         char what[40];
         (void)snprintf(what, sizeof what, "writer refusal %zu", i);
-        expect(second_write(refused[i]) == 0x06000000u, what);
+        expect(second_write(refused[i]) == 6, what);
     }
 }
 
 /* Composer ranges (6): every field tested, also those the scheme won't use. */
 static void composer_ranges(void)
 {
-    const uint32_t six = 0x06000000u;
+    const uint32_t six = 6;
     expect(second_compose_event(32, 0, 0, 0, 0, 0, 2) == six, "type 32");
     expect(second_compose_event(0, 32, 0, 0, 0, 0, 1) == six, "number 32");
     expect(second_compose_event(0, 0, 32, 0, 0, 0, 0) == six, "primary 32");
@@ -293,17 +296,17 @@ static void composer_ranges(void)
     expect(second_compose_event(0, 0, 0, 0, 0, 0, 254) == six, "scheme 254");
     expect(second_compose_power(64, 0) == six, "power, short 64");
     expect(second_compose_power(256, 0) == six, "power, short 256");
-    expect(second_compose_event(1, 2, 0, 0, 1, 5, 255) == 0x828805,
+    expect(second_compose_event(1, 2, 0, 0, 1, 5, 255) == 0x82880500,
            "as shipped is 0");
-    expect(second_compose_event(1, 2, 0, 255, 1, 5, 1) == 0x828805,
+    expect(second_compose_event(1, 2, 0, 255, 1, 5, 1) == 0x82880500,
            "scheme 1 falls back");
-    expect(second_compose_event(1, 2, 0, 255, 1, 5, 2) == 0x828805,
+    expect(second_compose_event(1, 2, 0, 255, 1, 5, 2) == 0x82880500,
            "scheme 2 falls back");
-    expect(second_compose_event(1, 2, 0, 0, 0, 5, 3) == 0x828805,
+    expect(second_compose_event(1, 2, 0, 0, 0, 5, 3) == 0x82880500,
            "scheme 3 falls back");
-    expect(second_compose_event(1, 2, 255, 0, 1, 5, 4) == 0x828805,
+    expect(second_compose_event(1, 2, 255, 0, 1, 5, 4) == 0x82880500,
            "scheme 4 falls back");
-    expect(second_compose_power(63, 1u << 31) == 0xFEFFFF, "highest power");
+    expect(second_compose_power(63, 1u << 31) == 0xFEFFFF00, "highest power");
 }
 
 /* ---- map, store, reset image ---- */
@@ -411,7 +414,7 @@ static void check_order(void)
     expect(check(&bench) == MAP_LENGTH, "7 before 8");
 }
 
-static uint32_t look(const Bench *bench, uint8_t bank, uint8_t location)
+static uint32_t look(const Bench *bench, uint32_t bank, uint32_t location)
 {
     return second_look(bench->map, bench->map_len, bench->store,
                        bench->store_len, bank, location);
@@ -426,6 +429,8 @@ static void look_calls(void)
     expect(look(&bench, 2, 4) == NO_VALUE, "look inside a value");
     expect(look(&bench, 2, 10) == NO_VALUE, "look at a hole");
     expect(look(&bench, 200, 0) == NO_VALUE, "look at bank 200");
+    expect(look(&bench, 0x102, 3) == NO_VALUE, "a bank is not cut");
+    expect(look(&bench, 2, 0x103) == NO_VALUE, "a location is not cut");
     bench.store[0] = 0;
     expect(look(&bench, 2, 4) == BANK_RULE, "look tests 11 before 14");
 }
@@ -450,6 +455,8 @@ static void start_calls(void)
     expect(same_state(&bench.unit, &zeros),
            "a refused start's state is all zeros");
     expect(start_bench(&bench, 254, 7) == FIELD_OUT_OF_RANGE, "start, 254: 6");
+    expect(start_bench(&bench, 0x105, 7) == FIELD_OUT_OF_RANGE,
+           "start: an address is not cut");
     expect(start_bench(&bench, 255, 7) == 0, "start without an address");
     bench.store[0] = 0;
     expect(start_bench(&bench, 64, 7) == BANK_RULE, "start: 11 before 6");

@@ -1,12 +1,13 @@
 #!/bin/bash
-# slips.sh [SEED] [COUNT]: for each seeded slip, builds the trace program with
-# it and runs COUNT scenarios; a slip that changes no output is NOT FOUND, and
-# the exit status is then 1.
+# slips.sh [SEED] [COUNT] [NAME]: for each seeded slip, or for the named one
+# only, builds the trace program with it and runs COUNT scenarios; a slip that
+# changes no output is NOT FOUND, and the exit status is then 1.
 set -u
 
 here=$(cd "$(dirname "$0")" && pwd)
 seed=${1:-1}
 count=${2:-500}
+only=${3:-*}
 work=$(mktemp -d) || exit 1
 trap 'rm -rf "$work"' EXIT
 
@@ -36,8 +37,9 @@ run_all "$work/plain/build/trace" "$work/wanted"
 status=0
 slips=0
 found=0
-for slip in "$here"/slips/*.patch; do
+for slip in "$here"/slips/$only.patch; do
     name=$(basename "$slip" .patch)
+    [ -f "$slip" ] || { echo "$name IS NO SLIP"; exit 1; }
     slips=$((slips + 1))
     rm -rf "$work/slipped" "$work/got"
     cp -rp "$work/plain" "$work/slipped"

@@ -107,7 +107,7 @@ bool second_unpack(const uint8_t in[STATE_BYTES], Unit *unit)
 /* A refused start's state is all zeros, and so are its bytes. */
 uint32_t second_start_bytes(const uint8_t *map, size_t map_len, uint8_t *store,
                             size_t store_len, const uint8_t *image,
-                            size_t image_len, uint8_t address, uint32_t groups,
+                            size_t image_len, uint32_t address, uint32_t groups,
                             uint8_t state[STATE_BYTES])
 {
     Unit unit;

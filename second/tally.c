@@ -81,7 +81,7 @@ static void tally_cut(const Files *files, const Unit *before)
 static void tally_between(uint32_t frame)
 {
     uint64_t word = second_read(frame);
-    if (word >> 56 != 0) {
+    if ((word & 0xFF) != 0) {
         between_reserved++;
     } else if ((word >> 48 & 0xFF) >= EVENT) {
         between_event++;

@@ -133,7 +133,7 @@ static bool for_the_unit(const Unit *unit, const Message *message)
     }
 }
 
-static bool address_in_range(uint8_t address)
+static bool address_in_range(uint32_t address)
 {
     return address <= 63 || address == NO_ADDRESS;
 }
@@ -420,7 +420,7 @@ static Unit fresh_unit(uint8_t address, uint32_t groups)
 /* Start tests 7 to 11, then 6. A refused start's state is all zeros. */
 uint32_t second_start(const uint8_t *map, size_t map_len, uint8_t *store,
                       size_t store_len, const uint8_t *image, size_t image_len,
-                      uint8_t address, uint32_t groups, Unit *unit)
+                      uint32_t address, uint32_t groups, Unit *unit)
 {
     const Lent lent = {map, map_len, store, store_len, image, store};
     uint32_t number = second_check(map, map_len, store, store_len, image_len);
@@ -432,7 +432,7 @@ uint32_t second_start(const uint8_t *map, size_t map_len, uint8_t *store,
         return FIELD_OUT_OF_RANGE;
     }
     power_on_store(&lent);
-    *unit = fresh_unit(address, groups);
+    *unit = fresh_unit((uint8_t)address, groups);
     return 0;
 }
 

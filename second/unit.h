@@ -60,18 +60,20 @@ typedef struct Unit {
     uint8_t latched_bytes[VALUE_LIMIT];
 } Unit;
 
+/* Every answer has the refusal number, or 0, in its low byte. */
+
 /* The reader: the message word of a frame, eight bytes from high to low:
-   refusal number, kind, then
+   0, kind, then
      command: address kind, address number, target kind, target number,
               opcode, 0
      special: number, first free byte, second free byte, 0, 0, 0
      event:   field of bits 22 or 21..17, field of bits 14..10,
               information high, information low, 0, 0
      power:   group present, group, short address present, short address, 0, 0
-   A refusal has its number and seven zeros. */
+   A refusal's word is its number alone. */
 uint64_t second_read(uint32_t frame);
 
-/* The writer and the composers: number << 24 | frame; a refusal has frame 0. */
+/* The writer and the composers: number | frame << 8; a refusal has frame 0. */
 uint32_t second_write(uint64_t word);
 uint32_t second_compose_event(uint32_t type, uint32_t number, uint32_t primary,
                               uint32_t short_address, uint32_t groups,
@@ -83,15 +85,16 @@ uint32_t second_check(const uint8_t *map, size_t map_len, const uint8_t *store,
                       size_t store_len, size_t image_len);
 
 /* The look call: number | width << 8 | store offset << 16; a refusal has
-   width and offset 0. The value's bytes are store[offset] on. */
+   width and offset 0. The value's bytes are store[offset] on. A bank or
+   location that no byte holds has no value. */
 uint32_t second_look(const uint8_t *map, size_t map_len, const uint8_t *store,
-                     size_t store_len, uint8_t bank, uint8_t location);
+                     size_t store_len, uint32_t bank, uint32_t location);
 
 /* Start, a later power-on, a frame step:
    number | answered << 8 | answer << 16. */
 uint32_t second_start(const uint8_t *map, size_t map_len, uint8_t *store,
                       size_t store_len, const uint8_t *image, size_t image_len,
-                      uint8_t address, uint32_t groups, Unit *unit);
+                      uint32_t address, uint32_t groups, Unit *unit);
 uint32_t second_power_on(const uint8_t *map, size_t map_len, uint8_t *store,
                          size_t store_len, const uint8_t *image,
                          size_t image_len, Unit *unit);
@@ -107,7 +110,7 @@ bool second_unpack(const uint8_t in[STATE_BYTES], Unit *unit);
 /* The same three calls over a state of 96 bytes. */
 uint32_t second_start_bytes(const uint8_t *map, size_t map_len, uint8_t *store,
                             size_t store_len, const uint8_t *image,
-                            size_t image_len, uint8_t address, uint32_t groups,
+                            size_t image_len, uint32_t address, uint32_t groups,
                             uint8_t state[STATE_BYTES]);
 uint32_t second_power_on_bytes(const uint8_t *map, size_t map_len,
                                uint8_t *store, size_t store_len,

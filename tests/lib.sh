@@ -32,3 +32,6 @@ second_program() {
         && make -s -C second all OUT="$(pwd)/target/second" \
         && make -s -C second sanitize OUT="$(pwd)/target/second-sanitized"
 }
+
+# c_tools: the compiler whose programs link our archive
+c_tools() { if [ "$(uname -m)" = x86_64 ]; then need gcc gcc; else need x86_64-linux-gnu-gcc gcc-x86-64-linux-gnu; fi; }

@@ -5,7 +5,8 @@
  * Most inputs keep the rules, so that writings, resets and latched reads come about: a unit goes through long lists of
  * frames. Beside each step map, store, image or state are damaged in a copy, and the calls are tried on that. A refused
  * call must leave state and store as they were. Counted is how often each call was made, each number given, each damage
- * refused by its number, and each thing seen; what never came is a failure. */
+ * refused by its number, and each thing seen; what never came is a failure. The unit's calls are made by turns with all
+ * that is lent to them, and over an mf_unit. */
 #include "inputs.h"
 
 #include "unit.h"
@@ -63,6 +64,7 @@ enum Seen {
     ANSWERED, STORED, STORED_WHOLE, RESET, WAITED, OPENED, CLOSED, STAGES, DROPPED, LATCHES, LATCH_ENDED,
     NEW_ADDRESS, NEW_GROUPS,
     RUN_WHOLE, RUN_OF_NONE, RUN_BY_ROOM, RUN_ENDED,
+    START_NOT_CUT, LOOK_NOT_CUT,
     SEEN
 };
 
@@ -91,6 +93,8 @@ static const char *const seen_names[SEEN] = {
     [RUN_OF_NONE] = "runs without a whole record, or without room",
     [RUN_BY_ROOM] = "runs that ended where the output was full",
     [RUN_ENDED] = "runs that 13 ended",
+    [START_NOT_CUT] = "starts with an address over 255, refused by 6",
+    [LOOK_NOT_CUT] = "looks at a value by a bank or location over 255, refused by 14",
 };
 
 static uint64_t seen[SEEN];
@@ -139,10 +143,27 @@ static void compare(enum Call call, uint32_t ours, uint32_t theirs, const Kept *
     refused(call, before, mine);
 }
 
+/* What is lent, as one thing; an empty part may be null there. */
+static mf_unit unit_of(const Lent *l, Kept *kept) {
+    mf_unit unit = {0};
+    unit.map_length = l->map_length, unit.store_length = l->store_length, unit.image_length = l->image_length;
+    if (l->map_length > 0) unit.map = l->map;
+    if (l->store_length > 0) unit.store = kept->store;
+    if (l->image_length > 0) unit.image = l->image;
+    unit.state = kept->state;
+    return unit;
+}
+
+static uint32_t our_frame(const Lent *l, Kept *kept, uint32_t frame, uint32_t clock) {
+    const mf_unit unit = unit_of(l, kept);
+    if (once_in(2)) return mf_unit_hear(&unit, frame, clock);
+    return mf_frame(l->map, l->map_length, kept->store, l->store_length, l->image, l->image_length, kept->state, frame,
+                    clock);
+}
+
 static void frame_call(const Lent *l, Kept *kept, uint32_t frame, uint32_t clock) {
     Kept mine = *kept, other = *kept;
-    uint32_t ours = mf_frame(l->map, l->map_length, mine.store, l->store_length, l->image, l->image_length, mine.state,
-                             frame, clock);
+    uint32_t ours = our_frame(l, &mine, frame, clock);
     uint32_t theirs = second_frame_bytes(l->map, l->map_length, other.store, l->store_length, l->image,
                                          l->image_length, other.state, frame, clock);
     compare(STEP, ours, theirs, &mine, &other, kept);
@@ -150,11 +171,16 @@ static void frame_call(const Lent *l, Kept *kept, uint32_t frame, uint32_t clock
     *kept = mine;
 }
 
+static uint32_t our_power_on(const Lent *l, Kept *kept) {
+    const mf_unit unit = unit_of(l, kept);
+    if (once_in(2)) return mf_unit_power_on(&unit);
+    return mf_power_on(l->map, l->map_length, kept->store, l->store_length, l->image, l->image_length, kept->state);
+}
+
 /* It answers the number. */
 static uint32_t power_on_call(const Lent *l, Kept *kept) {
     Kept mine = *kept, other = *kept;
-    uint32_t ours =
-        mf_power_on(l->map, l->map_length, mine.store, l->store_length, l->image, l->image_length, mine.state);
+    uint32_t ours = our_power_on(l, &mine);
     uint32_t theirs = second_power_on_bytes(l->map, l->map_length, other.store, l->store_length, l->image,
                                             l->image_length, other.state);
     compare(POWER_ON, ours, theirs, &mine, &other, kept);
@@ -162,33 +188,52 @@ static uint32_t power_on_call(const Lent *l, Kept *kept) {
     return mf_number(ours);
 }
 
+static uint32_t our_start(const Lent *l, Kept *kept, uint32_t address, uint32_t groups) {
+    const mf_unit unit = unit_of(l, kept);
+    if (once_in(2)) return mf_unit_start(&unit, address, groups);
+    return mf_start(l->map, l->map_length, kept->store, l->store_length, l->image, l->image_length, address, groups,
+                    kept->state);
+}
+
 /* It answers the number. Whatever stands in the state is not looked at; a refused one writes zeros. */
-static uint32_t start_call(const Lent *l, Kept *kept, uint8_t address) {
+static uint32_t start_call(const Lent *l, Kept *kept, uint32_t address) {
     uint32_t groups = once_in(4) ? any() : any() & any() & any();
     Kept mine = *kept, other = *kept, before = *kept;
     for (size_t i = 0; i < MF_STATE_BYTES; i++) mine.state[i] = byte();
-    uint32_t ours = mf_start(l->map, l->map_length, mine.store, l->store_length, l->image, l->image_length, address,
-                             groups, mine.state);
+    uint32_t ours = our_start(l, &mine, address, groups);
     uint32_t theirs = second_start_bytes(l->map, l->map_length, other.store, l->store_length, l->image,
                                          l->image_length, address, groups, other.state);
     memset(before.state, 0, sizeof before.state);
     compare(START, ours, theirs, &mine, &other, &before);
+    see(START_NOT_CUT, address > 255 && mf_number(ours) == MF_BAD_FIELD);
     *kept = mine;
     return mf_number(ours);
 }
 
 /* It answers the number. */
-static uint32_t check_call(const Lent *l, const Kept *kept) {
-    uint32_t ours = mf_check(l->map, l->map_length, kept->store, l->store_length, l->image, l->image_length);
+static uint32_t check_call(const Lent *l, Kept *kept) {
+    const mf_unit unit = unit_of(l, kept);
+    uint32_t ours = once_in(2) ? mf_unit_check(&unit)
+                               : mf_check(l->map, l->map_length, kept->store, l->store_length, l->image,
+                                          l->image_length);
     same(CHECK, ours, second_check(l->map, l->map_length, kept->store, l->store_length, l->image_length), ours);
     return ours;
 }
 
-static void look_call(Lent *l, const Kept *kept) {
+/* A bank and a location, now and then too large for a byte that would name a value. */
+static void look_call(Lent *l, Kept *kept) {
     const uint8_t *r = records(l) > 0 && !once_in(4) ? record(l, below((uint32_t)records(l))) : NULL;
-    uint8_t bank = r ? r[0] : once_in(3) ? byte() : (uint8_t)below(20), at = r ? r[1] : (uint8_t)below(16);
-    uint32_t ours = mf_look(l->map, l->map_length, kept->store, l->store_length, bank, at);
+    uint32_t bank = r ? r[0] : once_in(3) ? byte() : below(20), at = r ? r[1] : below(16);
+    if (once_in(20)) bank |= any() << 8;
+    if (once_in(20)) at |= any() << 8;
+    const mf_unit unit = unit_of(l, kept);
+    uint32_t ours = once_in(2) ? mf_unit_look(&unit, bank, at)
+                               : mf_look(l->map, l->map_length, kept->store, l->store_length, bank, at);
     same(LOOK, ours, second_look(l->map, l->map_length, kept->store, l->store_length, bank, at), ours);
+    see(LOOK_NOT_CUT, r && (bank > 255 || at > 255) && ours == MF_BAD_LOCATION);
+    if (mf_number(ours) != MF_OK) return;
+    expect_call(LOOK, "bytes outside the store", mf_offset(ours) + mf_width(ours) <= l->store_length);
+    expect_call(LOOK, "other bytes", mf_unit_bytes(&unit, ours) == kept->store + mf_offset(ours));
 }
 
 /* ---- a run of records, against the second program's calls one after the other ---- */
@@ -199,6 +244,13 @@ static uint32_t later(uint32_t clock) {
     if (once_in(60)) return any();
     if (once_in(60)) return 0xFFFFFFFF - below(100); /* it soon runs over */
     return clock + (once_in(12) ? 99 + below(3) : below(60));
+}
+
+static size_t our_run(const Lent *l, Kept *kept, const uint8_t *bytes, size_t length, uint8_t *out, size_t room) {
+    const mf_unit unit = unit_of(l, kept);
+    if (once_in(2)) return mf_unit_run(&unit, length > 0 ? bytes : NULL, length, room > 0 ? out : NULL, room);
+    return mf_run(l->map, l->map_length, kept->store, l->store_length, l->image, l->image_length, kept->state, bytes,
+                  length, out, room);
 }
 
 static uint32_t make_records(Plan *plan, Lent *lent, const Kept *kept, uint32_t clock, uint8_t *to) {
@@ -216,11 +268,11 @@ static uint32_t make_records(Plan *plan, Lent *lent, const Kept *kept, uint32_t 
 /* One record; false where it is of unknown kind. */
 static bool one_record(const Lent *l, Kept *other, const uint8_t *r, uint8_t *output) {
     uint32_t clock = (uint32_t)r[0] << 24 | (uint32_t)r[1] << 16 | (uint32_t)r[2] << 8 | r[3];
-    uint32_t frame = (uint32_t)r[5] << 16 | (uint32_t)r[6] << 8 | r[7], answer = MF_TRACE_RECORD;
-    if (r[4] == 0)
+    uint32_t frame = (uint32_t)r[5] << 16 | (uint32_t)r[6] << 8 | r[7], answer = MF_BAD_TRACE_RECORD;
+    if (r[4] == MF_RECORD_FRAME)
         answer = second_frame_bytes(l->map, l->map_length, other->store, l->store_length, l->image, l->image_length,
                                     other->state, frame, clock);
-    if (r[4] == 1)
+    if (r[4] == MF_RECORD_POWER_ON)
         answer = second_power_on_bytes(l->map, l->map_length, other->store, l->store_length, l->image,
                                        l->image_length, other->state);
     output[0] = (uint8_t)answer, output[1] = (uint8_t)(answer >> 8), output[2] = (uint8_t)(answer >> 16);
@@ -236,8 +288,7 @@ static void run_call(const Lent *l, Kept *kept, const uint8_t *bytes) {
     bool on = true, refusals = true;
     Kept mine = *kept, other = *kept;
     memset(mine_out, 0xA5, sizeof mine_out), memset(other_out, 0xA5, sizeof other_out);
-    size_t ours = mf_run(l->map, l->map_length, mine.store, l->store_length, l->image, l->image_length, mine.state,
-                         bytes, length, mine_out, room);
+    size_t ours = our_run(l, &mine, bytes, length, mine_out, room);
     for (; on && count < most; count++) {
         on = one_record(l, &other, bytes + 8 * count, other_out + 4 * count);
         refusals &= other_out[4 * count] != 0;
@@ -254,7 +305,11 @@ static void run_call(const Lent *l, Kept *kept, const uint8_t *bytes) {
 
 /* ---- sessions ---- */
 
-static uint8_t legal_address(void) { return once_in(6) ? MF_NO_ADDRESS : (uint8_t)below(64); }
+static uint32_t legal_address(void) { return once_in(6) ? (uint32_t)MF_NO_ADDRESS : below(64); }
+static uint32_t any_address(void) {
+    if (once_in(8)) return legal_address() | any() << 8; /* legal if it were cut */
+    return once_in(4) ? byte() : legal_address();
+}
 
 /* The calls on a damaged copy, and whether the damage gave its number. */
 static void try_damaged(const Lent *lent, const Kept *kept, uint32_t clock, const uint8_t *bytes) {
@@ -269,7 +324,7 @@ static void try_damaged(const Lent *lent, const Kept *kept, uint32_t clock, cons
     again = copy;
     run_call(&other, &again, bytes);
     again = copy;
-    start_call(&other, &again, once_in(4) ? byte() : legal_address());
+    start_call(&other, &again, any_address());
     uint32_t checked = check_call(&other, &copy);
     look_call(&other, &copy);
     if (!done) return;
@@ -306,17 +361,44 @@ static void session(uint32_t steps) {
 
 /* ---- frames without a unit ---- */
 
+/* The word that the header's names for its parts make. */
+static uint64_t word_of_parts(uint64_t word) {
+    uint64_t of[7] = {mf_kind(word), 0, 0, 0, 0, 0, 0}, made = 0;
+    switch (mf_kind(word)) {
+    case MF_COMMAND:
+        of[1] = mf_address_kind(word), of[2] = mf_address_number(word);
+        of[3] = mf_target_kind(word), of[4] = mf_target_number(word), of[5] = mf_opcode(word);
+        break;
+    case MF_SPECIAL:
+        of[1] = mf_special_number(word), of[2] = mf_special_first(word), of[3] = mf_special_second(word);
+        break;
+    case MF_POWER_CYCLE:
+        of[1] = mf_power_has_group(word), of[2] = mf_power_group(word);
+        of[3] = mf_power_has_short(word), of[4] = mf_power_short(word);
+        break;
+    default:
+        of[1] = mf_event_first(word), of[2] = mf_event_second(word);
+        of[3] = mf_information(word) >> 8, of[4] = mf_information(word) & 0xFF;
+    }
+    for (size_t i = 0; i < 7; i++) made = made << 8 | of[i];
+    return made;
+}
+
 static void read_and_write(void) {
     static const Kept nobody;
     uint32_t frame = once_in(3) ? any() >> 8 : any_frame(&nobody);
     if (once_in(50)) frame |= any() << 24;
     uint64_t word = mf_read(frame);
-    same(READ, word, second_read(frame), (uint32_t)(word >> 56));
-    if (word >> 56 == 0) expect_call(WRITE, "what reads does not write back", mf_write(word) == frame);
+    same(READ, word, second_read(frame), mf_number(word));
+    if (mf_number(word) == MF_OK) {
+        uint32_t back = mf_write(word);
+        expect_call(WRITE, "what reads does not write back", mf_number(back) == MF_OK && mf_frame_of(back) == frame);
+        expect_call(READ, "its parts are not the word", word_of_parts(word) == word);
+    }
     if (once_in(3)) word ^= (uint64_t)1 << below(64);
     if (once_in(20)) word = (uint64_t)any() << 32 | any();
     uint32_t ours = mf_write(word);
-    same(WRITE, ours, second_write(word), ours >> 24);
+    same(WRITE, ours, second_write(word), mf_number(ours));
 }
 
 /* Mostly in range, sometimes at its limit or far out. */
@@ -328,9 +410,9 @@ static void compose(void) {
     uint32_t groups = once_in(3) ? 0 : any() << below(32), information = field(1024), scheme = or_missing(5);
     uint32_t ours = mf_compose_event(sort, number, primary, address, groups, information, scheme);
     same(EVENT_COMPOSER, ours, second_compose_event(sort, number, primary, address, groups, information, scheme),
-         ours >> 24);
+         mf_number(ours));
     ours = mf_compose_power(address, groups);
-    same(POWER_COMPOSER, ours, second_compose_power(address, groups), ours >> 24);
+    same(POWER_COMPOSER, ours, second_compose_power(address, groups), mf_number(ours));
 }
 
 /* ---- what came ---- */

@@ -68,7 +68,7 @@ static bool accepted(const Left *left)
 {
     bool all = true;
     for (size_t i = 0; i < CALLS; i++)
-        all = all && left->answers[i] % 256 == 0;
+        all = all && mf_number(left->answers[i]) == MF_OK;
     return all;
 }
 

@@ -54,7 +54,7 @@ static void do_run(void)
 
 static void do_look(void)
 {
-    mf_look(lent.map, lent.map_length, kept.store, lent.store_length, (uint8_t)(frame >> 8), (uint8_t)frame);
+    mf_look(lent.map, lent.map_length, kept.store, lent.store_length, frame >> 8 & 0xFF, frame & 0xFF);
 }
 
 static void do_read(void) { word = mf_read(frame); }

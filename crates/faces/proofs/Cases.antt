@@ -14,7 +14,7 @@ use Rattle.numbers.proofs.Computing.{reading, checking, looking, meaning, stori
 use Rattle.unit.proofs.Bench.{filling, acting, calling}
 use Rattle.packing.specs.StateBytes.{bytesOf, stateBytes, fourAt, stateOf, shapeHolds}
 use Rattle.faces.specs.Answers.{replyWord, lookWord}
-use Rattle.faces.specs.Face.{shapeNumber, startFace, frameFace, powerOnFace, runFace}
+use Rattle.faces.specs.Face.{thenNumber, startFace, frameFace, powerOnFace, runFace}
 use Rattle.faces.specs.Cases.{Cases}
 
 unfoldable words : Unit {0}
@@ -24,7 +24,7 @@ unfolding lookNumber lookOf trailingZeros addressAt schemeAt fieldAt bytesFrame 
 words = tt
 
 unfoldable faces : Unit {0}
-unfolding bytesOf stateBytes fourAt stateOf shapeHolds replyWord lookWord shapeNumber startFace frameFace powerOnFace
+unfolding bytesOf stateBytes fourAt stateOf shapeHolds replyWord lookWord thenNumber startFace frameFace powerOnFace
     runFace
 faces = tt
 
@@ -35,6 +35,7 @@ cases =
       check = (refl, refl);
       look = refl;
       look-none = refl;
+      look-no-byte = (refl, refl);
       read = refl;
       read-refused = refl;
       write = refl;
@@ -45,6 +46,7 @@ cases =
       compose-power = (refl, refl);
       start = (refl, refl, refl);
       start-refused = (refl, refl);
+      start-no-byte = (refl, refl, refl);
       half = refl;
       p11-answers = refl;
       p11-store = refl;

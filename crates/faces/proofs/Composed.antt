@@ -1,4 +1,4 @@
--- A field that is too large for its type is out of range.
+-- A field that is too large for its type is out of range; and what is written or composed has 24 bits.
 -- Assumes nothing.
 use Prim.Native.Nat.{ℕ, _≤_, _<_, _^_}
 use mathlib.Core.Path.{_≡_, refl, sym, _∙_}
@@ -7,9 +7,12 @@ use native.Mathlib.Omega.{arith}
 use lib.Dec.{ltb, leb, eqb}
 use borrow.Author.Tests.{ltb-true, leb-true, le-leb, eqb-true, not-true}
 use Rattle.laws.proofs.Tests.{both, if-by, clash}
-use Rattle.composing.specs.Compose.{orMissing, sourceFits, composeOf, powerFits, composePowerOf}
+use Rattle.frames.specs.Values.{WritingFits}
+use Rattle.frames.specs.declared.message.Reading.{Reading}
+use Rattle.frames.proofs.Round.{writings-fit}
+use Rattle.composing.specs.Compose.{orMissing, sourceFits, eventBy, composeOf, powerFits, powerBy, composePowerOf}
 use Rattle.composing.specs.declared.source.Source.{Source}
-use Rattle.faces.specs.Answers.{outOfRange, source, fieldsHeld, Held}
+use Rattle.faces.specs.Answers.{outOfRange, writtenOf, source, fieldsHeld, Held}
 
 below : (x limit : ℕ) → limit ≤ 255 → orMissing x limit ≡ true → x ≤ 255
 unfolding orMissing
@@ -81,3 +84,17 @@ power-not-held short groups h =
     if-by (λ w. w ≡ outOfRange) (powerFits short groups)
     (λ f. absurd (omega (arith, below short 64 (omega arith) (both (ltb groups (2 ^ 32)) (orMissing short 64) f .1))))
     (λ f. refl)
+
+-- what each call answers with is a frame of 24 bits, or a number of one byte
+pub written-fits : (r : Reading) → WritingFits (writtenOf r)
+written-fits (Reading.Got m) = writings-fit m
+written-fits (Reading.Refused n) = omega arith
+
+pub composed-fits : (e : Source) → WritingFits (composeOf e)
+unfolding composeOf
+composed-fits e = if-by WritingFits (sourceFits e) (λ _. writings-fit (eventBy e)) (λ _. omega arith)
+
+pub power-fits : (short groups : ℕ) → WritingFits (composePowerOf short groups)
+unfolding composePowerOf
+power-fits short groups =
+    if-by WritingFits (powerFits short groups) (λ _. writings-fit (powerBy short groups)) (λ _. omega arith)

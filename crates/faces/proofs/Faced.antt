@@ -3,35 +3,53 @@
 use Prim.Native.Nat.{ℕ, zero, suc, _<_}
 use mathlib.Core.Path.{_≡_, refl, sym, ap, _∙_}
 use mathlib.Core.Bool.{Bool, true, false, not}
-use mathlib.Core.List.{List, [], _∷_}
+use mathlib.Core.List.{List, [], _∷_, _++_}
 use native.Mathlib.Omega.{arith}
 use borrow.Author.Tests.{not-true, not-false}
-use Rattle.laws.specs.Numbers.{test, firstFailing}
+use Rattle.laws.specs.Numbers.{Test, test, firstFailing}
 use Rattle.laws.specs.Outcome.{Outcome, Gives}
 use Rattle.laws.proofs.Joined.{joined-none, joined-some}
 use Rattle.banks.specs.Rules.{checkTests, checkNumber}
 use Rattle.rooms.specs.declared.reply.Stepped.{Stepped}
 use Rattle.packing.specs.StateBytes.{stateBytes, shapeHolds}
 use Rattle.faces.specs.Answers.{refusal, replyWord}
-use Rattle.faces.specs.Face.{facedBy, shapeNumber, onBytes, Faces}
+use Rattle.faces.specs.Face.{facedBy, thenNumber, shapeNumber, onBytes, Faces}
 
--- 7 to 11 come first, then 12
-module _ (map store : List ℕ) (kept n : ℕ) (e : n ≡ checkNumber map store kept) where
-  pub shape-first : (n ≡ 0 → ⊥) → n ≡ shapeNumber map store kept
-  unfolding checkNumber shapeNumber
-  shape-first h = sym (joined-some (checkTests map store kept) (test 12 false ∷ []) n (omega arith) (sym e))
+-- 7 to 11 come first, then the call's own number
+module _ (map store : List ℕ) (kept own n : ℕ) (e : n ≡ checkNumber map store kept) where
+  pub then-first : (n ≡ 0 → ⊥) → n ≡ thenNumber map store kept own
+  unfolding checkNumber thenNumber
+  then-first h = sym (joined-some (checkTests map store kept) (test own false ∷ []) n (omega arith) (sym e))
 
-  pub shape-then : n ≡ 0 → 12 ≡ shapeNumber map store kept
-  unfolding checkNumber shapeNumber firstFailing
-  shape-then z = sym (joined-none (checkTests map store kept) (test 12 false ∷ []) refl (sym e ∙ z))
+  pub then-own : n ≡ 0 → own ≡ thenNumber map store kept own
+  unfolding checkNumber thenNumber firstFailing
+  then-own z = sym (joined-none (checkTests map store kept) (test own false ∷ []) refl (sym e ∙ z))
 
 -- it is a number
-pub shape-some : (map store : List ℕ) (kept : ℕ) → 0 < shapeNumber map store kept
-shape-some map store kept = go (checkNumber map store kept) refl
+pub then-some : (map store : List ℕ) (kept own : ℕ) → 0 < own → 0 < thenNumber map store kept own
+then-some map store kept own h = go (checkNumber map store kept) refl
   where
-    go : (n : ℕ) → checkNumber map store kept ≡ n → 0 < shapeNumber map store kept
-    go zero e = omega (arith, shape-then map store kept 0 (sym e) refl)
-    go (suc n) e = omega (arith, shape-first map store kept (suc n) (sym e) (λ h. omega arith))
+    go : (n : ℕ) → checkNumber map store kept ≡ n → 0 < thenNumber map store kept own
+    go zero e = omega (arith, then-own map store kept own 0 (sym e) refl)
+    go (suc n) e = omega (arith, then-first map store kept own (suc n) (sym e) (λ z. omega arith))
+
+-- 7 to 11 and one test more, which do not all pass
+pub then-is : (map store : List ℕ) (kept own : ℕ) (last : Bool) →
+    (firstFailing (checkTests map store kept ++ test own last ∷ []) ≡ 0 → ⊥) →
+    firstFailing (checkTests map store kept ++ test own last ∷ []) ≡ thenNumber map store kept own
+unfolding thenNumber firstFailing
+then-is map store kept own false h = refl
+then-is map store kept own true h = go (firstFailing tests) refl
+  where
+    tests : List Test
+    tests = checkTests map store kept
+
+    go : (n : ℕ) → firstFailing tests ≡ n →
+        firstFailing (tests ++ test own true ∷ []) ≡ firstFailing (tests ++ test own false ∷ [])
+    go zero e = absurd (h (joined-none tests (test own true ∷ []) refl e))
+    go (suc n) e =
+        joined-some tests (test own true ∷ []) (suc n) (omega arith) e
+        ∙ sym (joined-some tests (test own false ∷ []) (suc n) (omega arith) e)
 
 pub faced : {stepped : Stepped} {answer : ℕ} {state store : List ℕ} {o : Outcome Stepped} →
     Gives stepped store o → state ≡ stateBytes (stepped .state) → answer ≡ replyWord (stepped .reply) →

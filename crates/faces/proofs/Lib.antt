@@ -2,6 +2,8 @@ pub mod Composed
 pub mod Faced
 pub mod Words
 pub mod Numbers
+pub mod LowByte
+pub mod NoByte
 pub mod Settled
 pub mod Cases
 pub mod Run

@@ -4,6 +4,7 @@ use Prim.Native.Nat.{ℕ, _<_}
 use mathlib.Core.Path.{_≡_, refl, sym, ap, _∙_}
 use mathlib.Core.Bool.{Bool, true, false}
 use mathlib.Core.List.{List, [], _∷_, _++_}
+use native.Mathlib.Omega.{arith}
 use lib.ListN.{length, replicate}
 use Rattle.laws.specs.Bits.{bits}
 use Rattle.laws.specs.Numbers.{Test, test, firstFailing, numbered}
@@ -23,8 +24,8 @@ use Rattle.unit.proofs.Numbers.{calls-refused, calls-reply}
 use Rattle.packing.specs.StateBytes.{bytesOf, stateBytes, stateOf, shapeHolds}
 use Rattle.packing.specs.Promises.{Bytes}
 use Rattle.packing.proofs.Round.{bytes-back}
-use Rattle.faces.specs.Face.{facedBy, shapeNumber, onBytes, frameFace, powerOnFace, startFace}
-use Rattle.faces.proofs.Faced.{shape-some}
+use Rattle.faces.specs.Face.{facedBy, thenNumber, onBytes, frameFace, powerOnFace, startFace}
+use Rattle.faces.proofs.Faced.{then-some}
 use Rattle.faces.specs.Promises.{frameTests, powerOnTests, FacesNumbered, Refuses, FacesRefused}
 
 given-by : (n : ℕ) (ts : List Test) → n ≡ firstFailing ts → numbered ts ≡ true → GivenBy n ts
@@ -33,22 +34,23 @@ given-by n ts e k =
 
 module _ (map store image : List ℕ) where
   -- by the bytes: a state's or not
-  frame-number : (bytes : List ℕ) (frame clock : ℕ) (shaped : Bool) → shapeHolds bytes ≡ shaped →
+  pub frame-number : (bytes : List ℕ) (frame clock : ℕ) (shaped : Bool) → shapeHolds bytes ≡ shaped →
       frameFace map store image bytes frame clock .reply .number
       ≡ firstFailing (frameTests map store (length image) bytes frame clock)
-  unfolding frameFace stepNumber shapeNumber
+  unfolding frameFace stepNumber thenNumber
   frame-number bytes frame clock true e =
       rw e (calls-reply map store image .step (stateOf bytes) (heardAt clock frame))
   frame-number bytes frame clock false e =
       rw e
       (sym
       (joined-some (checkTests map store (length image) ++ test 12 false ∷ [])
-      (heardTests map store (stateOf bytes) (heardAt clock frame)) _ (shape-some map store (length image)) refl))
+      (heardTests map store (stateOf bytes) (heardAt clock frame)) _
+      (then-some map store (length image) 12 (omega arith)) refl))
 
-  power-on-number : (bytes : List ℕ) (shaped : Bool) → shapeHolds bytes ≡ shaped →
+  pub power-on-number : (bytes : List ℕ) (shaped : Bool) → shapeHolds bytes ≡ shaped →
       powerOnFace map store image bytes .reply .number
       ≡ firstFailing (powerOnTests map store (length image) bytes)
-  unfolding powerOnFace powerNumber shapeNumber
+  unfolding powerOnFace powerNumber thenNumber
   power-on-number bytes true e = rw e (calls-reply map store image .power-on (stateOf bytes))
   power-on-number bytes false e = rw e
 

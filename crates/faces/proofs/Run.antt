@@ -1,6 +1,6 @@
 -- A run of records, faced. On a state that breaks a rule each record is refused, and state and store stay.
 -- Assumes nothing.
-use Prim.Native.Nat.{ℕ, _/_}
+use Prim.Native.Nat.{ℕ, _/_, _<_}
 use mathlib.Core.Path.{_≡_, refl, sym, ap, _∙_}
 use mathlib.Core.Bool.{Bool, true, false, not}
 use mathlib.Core.List.{List, [], _∷_, _++_}
@@ -26,24 +26,27 @@ use Rattle.tracing.specs.Run.{Runs}
 use Rattle.entries.specs.declared.entry.Entry.{Entry}
 use Rattle.tracing.specs.declared.runs.Ran.{Ran}
 use Rattle.packing.specs.StateBytes.{stateBytes, stateOf, shapeHolds}
-use Rattle.faces.specs.Face.{shapeNumber, refusedRun, runFace, RunFaces}
-use Rattle.faces.proofs.Faced.{shape-some}
+use Rattle.faces.specs.Face.{thenNumber, shapeNumber, refusedRun, runFace, RunFaces}
+use Rattle.faces.proofs.Faced.{then-some}
 
 module _ (map store image : List ℕ) (s : State) (unfit : stateHolds (recordsOf map) store s ≡ false) where
   abbrev number : ℕ
   number = shapeNumber map store (length image)
 
+  some-number : 0 < number
+  some-number = then-some map store (length image) 12 (omega arith)
+
   is-number : eqb number 0 ≡ false
-  is-number = ne-eqb number 0 (λ z. omega (arith, shape-some map store (length image)))
+  is-number = ne-eqb number 0 (λ z. omega (arith, some-number))
 
   power-number : powerNumber map store (length image) s ≡ number
-  unfolding powerNumber shapeNumber
+  unfolding powerNumber thenNumber
   power-number = rw unfit
 
   step-number : (heard : Heard) → stepNumber map store (length image) s heard ≡ number
   step-number heard =
       tests-in-order map store (length image) .step-powered s heard
-      (rw power-number (shape-some map store (length image)))
+      (rw power-number some-number)
       ∙ power-number
 
   refused : (x : Input) → inputOf map image store s x ≡ leaves (refusing s number) store

@@ -31,7 +31,7 @@ replyWord r = r .number + flag (r .answered) * 2 ^ 8 + r .answer * 2 ^ 16
 unfoldable pub lookWord : Looked → ℕ
 lookWord l = l .number + l .width * 2 ^ 8 + l .offset * 2 ^ 16
 
--- number << 24 | frame is `writingWord` of frames. 6: out of range
+-- number | frame << 8 is `writingWord` of frames. 6: out of range
 abbrev pub outOfRange : Writing
 outOfRange = Writing.Refused 6
 
@@ -72,7 +72,7 @@ pub record Held (sort number primary short information scheme : ℕ) : Type 0 wh
 abbrev pub checkAnswer : List ℕ → List ℕ → List ℕ → ℕ
 checkAnswer map store image = checkNumber map store (length image)
 
--- mf_look
+-- mf_look. Bank and location are any numbers: 14, if no value begins there
 abbrev pub lookAnswer : List ℕ → List ℕ → ℕ → ℕ → ℕ
 lookAnswer map store bank location = lookWord (lookOf map store bank location)
 

@@ -61,30 +61,37 @@ powerOnWith place byte = replyWord (powerOnFace benchMap benchStore benchImage (
 pub record Cases : Type 0 where
   -- 10: an image that is not as long as the store
   pub check : (checkAnswer benchMap benchStore benchImage ≡ 0) × (checkAnswer benchMap benchStore [] ≡ 10)
-  -- the value at bank 2, location 0x03 has 4 bytes, from store offset 2 on; 14: none begins at 0x04
+  -- the value at bank 2, location 0x03 has 4 bytes, from store offset 2 on; 14: none begins at 0x04, and none where a
+  -- number that is no byte would be cut to those
   pub look : lookAnswer benchMap benchStore 2 0x03 ≡ 0x020400
   pub look-none : lookAnswer benchMap benchStore 2 0x04 ≡ 14
+  pub look-no-byte : (lookAnswer benchMap benchStore 0x102 0x03 ≡ 14)
+      × (lookAnswer benchMap benchStore 2 0x103 ≡ 14)
   -- P1: command, short address 5, device, 0x15; and P10: refusal 5
   pub read : readAnswer 0x0BFE15 ≡ 0x050A001500
-  pub read-refused : readAnswer 0xFEE001 ≡ 0x0500000000000000
-  pub write : writeAnswer 0x050A001500 ≡ 0x0BFE15
+  pub read-refused : readAnswer 0xFEE001 ≡ 5
+  pub write : writeAnswer 0x050A001500 ≡ 0x0BFE1500
   -- 6: no message has the word; and one whose short address is 64
-  pub write-no-message : writeAnswer 0 ≡ 0x06000000
-  pub write-out-of-range : writeAnswer 0x400A001500 ≡ 0x06000000
+  pub write-no-message : writeAnswer 0 ≡ 6
+  pub write-out-of-range : writeAnswer 0x400A001500 ≡ 6
   -- P3 to P7: type, number, primary group, short address, groups, information, scheme; and a type out of range
-  pub compose-events : (eventAnswer 1 2 255 255 0 5 0 ≡ 0x828805)
-      × (eventAnswer 3 0 255 5 0 0x155 1 ≡ 0x0A0D55)
-      × (eventAnswer 0 31 255 63 0 1023 2 ≡ 0x7EFFFF)
-      × (eventAnswer 4 0 255 255 (2 ^ 7 + 2 ^ 9) 0 3 ≡ 0x8E1000)
-      × (eventAnswer 0 0 31 255 0 1 4 ≡ 0xFE0001)
-  pub compose-refused : eventAnswer 256 0 255 5 0 0x155 1 ≡ 0x06000000
+  pub compose-events : (eventAnswer 1 2 255 255 0 5 0 ≡ 0x82880500)
+      × (eventAnswer 3 0 255 5 0 0x155 1 ≡ 0x0A0D5500)
+      × (eventAnswer 0 31 255 63 0 1023 2 ≡ 0x7EFFFF00)
+      × (eventAnswer 4 0 255 255 (2 ^ 7 + 2 ^ 9) 0 3 ≡ 0x8E100000)
+      × (eventAnswer 0 0 31 255 0 1 4 ≡ 0xFE000100)
+  pub compose-refused : eventAnswer 256 0 255 5 0 0x155 1 ≡ 6
   -- P8, and P9
-  pub compose-power : (powerAnswer 5 (2 ^ 3) ≡ 0xFEF1C5) × (powerAnswer 255 0 ≡ 0xFEE000)
+  pub compose-power : (powerAnswer 5 (2 ^ 3) ≡ 0xFEF1C500) × (powerAnswer 255 0 ≡ 0xFEE00000)
   -- a start, and one that is refused: 6, all zeros
   pub start : (replyWord (started .reply) ≡ 0)
       × (started .state ≡ 0x05 ∷ replicate 95 0) × (started .store ≡ benchStore)
   pub start-refused : (replyWord (startFace benchMap benchStore benchImage 64 0 .reply) ≡ 6)
       × (startFace benchMap benchStore benchImage 64 0 .state ≡ replicate 96 0)
+  -- 6 too, where an address that is no byte would be cut to 5; 7 comes first
+  pub start-no-byte : (replyWord (startFace benchMap benchStore benchImage 0x105 0 .reply) ≡ 6)
+      × (startFace benchMap benchStore benchImage 0x105 0 .state ≡ replicate 96 0)
+      × (replyWord (startFace (0 ∷ []) benchStore benchImage 0x105 0 .reply) ≡ 7)
   -- the first half of a pair waits, with its clock
   pub half : tells (started .state) benchStore (at 0x01020304 0x0BFE15 ∷ [])
       ≡ record { answers = 0 ∷ []; state = halfBytes; store = benchStore }

@@ -28,9 +28,13 @@ pub record Faced : Type 0 where
 abbrev pub facedBy : Outcome Stepped → Faced
 facedBy o = record { reply = o .answer .reply; state = stateBytes (o .answer .state); store = o .store }
 
+-- 7 to 11, then a number that the call gives in any case
+unfoldable pub thenNumber : List ℕ → List ℕ → ℕ → ℕ → ℕ
+thenNumber map store kept own = firstFailing (checkTests map store kept ++ test own false ∷ [])
+
 -- bytes that are no state's break a rule of a state: 7 to 11, then 12
-unfoldable pub shapeNumber : List ℕ → List ℕ → ℕ → ℕ
-shapeNumber map store kept = firstFailing (checkTests map store kept ++ test 12 false ∷ [])
+abbrev pub shapeNumber : List ℕ → List ℕ → ℕ → ℕ
+shapeNumber map store kept = thenNumber map store kept 12
 
 -- what comes of the state that the bytes say; where they are no state's, state and store stay
 abbrev pub onBytes : List ℕ → List ℕ → ℕ → List ℕ → Outcome Stepped → Faced
@@ -46,7 +50,7 @@ frameFace map store image bytes frame clock =
 unfoldable pub powerOnFace : List ℕ → List ℕ → List ℕ → List ℕ → Faced
 powerOnFace map store image bytes = onBytes map store (length image) bytes (powerOnOf map store image (stateOf bytes))
 
--- a start looks at no state
+-- a start looks at no state. The address is any number: 6, if it is not 0..63 or 255
 unfoldable pub startFace : List ℕ → List ℕ → List ℕ → ℕ → ℕ → Faced
 startFace map store image address groups =
     facedBy (startOf map store image (record { address = address; groups = groups }))

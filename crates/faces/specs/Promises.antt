@@ -1,4 +1,5 @@
--- The promises about the definitions. They are proved in proofs/: Words, Numbers and Settled.
+-- The promises about the definitions. They are proved in proofs/: Words, LowByte, Numbers, NoByte
+-- and Settled.
 -- Assumes nothing.
 use mathlib.Core.Path.{_≡_}
 use mathlib.Core.Bool.{Bool, true, false, _&&_}
@@ -8,8 +9,14 @@ use lib.ListN.{length, replicate}
 use Rattle.laws.specs.Bits.{bits}
 use Rattle.laws.specs.Numbers.{Test, test}
 use Rattle.laws.specs.Settled.{Settles}
+use Rattle.frames.specs.Values.{readingNumber, writingNumber, writingWord, WritingFits}
+use Rattle.frames.specs.Read.{readOf}
+use Rattle.frames.specs.declared.message.Writing.{Writing}
+use Rattle.words.specs.Word.{messageOf}
+use Rattle.composing.specs.Compose.{composeOf, composePowerOf}
 use Rattle.records.specs.Map.{recordsOf}
-use Rattle.banks.specs.Rules.{checkTests}
+use Rattle.banks.specs.Rules.{checkTests, checkNumber}
+use Rattle.looks.specs.Look.{lookNumber}
 use Rattle.looks.specs.declared.looked.Looked.{Looked}
 use Rattle.hearing.specs.Pairs.{heardAt}
 use Rattle.rooms.specs.Rules.{stateHolds}
@@ -19,9 +26,10 @@ use Rattle.numbers.specs.Promises.{GivenBy}
 use Rattle.entries.specs.declared.entry.Entry.{Entry}
 use Rattle.packing.specs.StateBytes.{flag, stateOf, shapeHolds}
 use Rattle.packing.specs.Promises.{Bytes}
-use Rattle.faces.specs.Answers.{replyWord, lookWord}
+use Rattle.faces.specs.Answers.{replyWord, lookWord, writtenOf, source}
 use Rattle.faces.specs.Answers.{checkAnswer, lookAnswer, readAnswer, writeAnswer, eventAnswer, powerAnswer}
-use Rattle.faces.specs.Face.{Faced, frameFace, powerOnFace, startFace, Faces, RunFaced, runFace, RunFaces}
+use Rattle.faces.specs.Face.{Faced, thenNumber, frameFace, powerOnFace, startFace, Faces}
+use Rattle.faces.specs.Face.{RunFaced, runFace, RunFaces}
 
 -- ---- an answer as one number
 
@@ -42,6 +50,37 @@ pub record LookBack (l : Looked) : Type 0 where
 
 abbrev pub LooksBack : Type 0
 LooksBack = (l : Looked) → l .number < 256 → l .width < 256 → l .offset < 2 ^ 16 → LookBack l
+
+-- number | frame << 8: a frame has number 0, a refusal frame 0
+abbrev pub WritingBack : Writing → Type 0
+WritingBack (Writing.Frame f) = (bits (writingWord (Writing.Frame f)) 7 0 ≡ 0)
+    × (bits (writingWord (Writing.Frame f)) 31 8 ≡ f)
+WritingBack (Writing.Refused n) = (bits (writingWord (Writing.Refused n)) 7 0 ≡ n)
+    × (bits (writingWord (Writing.Refused n)) 31 8 ≡ 0)
+
+abbrev pub WritingsBack : Type 0
+WritingsBack = (w : Writing) → WritingFits w → WritingBack w
+
+-- one rule for every answer, but for a run's count of records: its low byte is the number
+abbrev pub LowReply : Faced → Type 0
+LowReply f = bits (replyWord (f .reply)) 7 0 ≡ f .reply .number
+
+pub record LowByte : Type 0 where
+  pub check : (map store image : List ℕ) →
+      bits (checkAnswer map store image) 7 0 ≡ checkNumber map store (length image)
+  pub look : (map store : List ℕ) (bank location : ℕ) →
+      bits (lookAnswer map store bank location) 7 0 ≡ lookNumber map store bank location
+  pub start : (map store image : List ℕ) (address groups : ℕ) → LowReply (startFace map store image address groups)
+  pub frame : (map store image bytes : List ℕ) (frame clock : ℕ) →
+      LowReply (frameFace map store image bytes frame clock)
+  pub power-on : (map store image bytes : List ℕ) → LowReply (powerOnFace map store image bytes)
+  pub read : (frame : ℕ) → bits (readAnswer frame) 7 0 ≡ readingNumber (readOf frame)
+  pub write : (word : ℕ) → bits (writeAnswer word) 7 0 ≡ writingNumber (writtenOf (messageOf word))
+  pub compose-event : (sort number primary short groups information scheme : ℕ) →
+      bits (eventAnswer sort number primary short groups information scheme) 7 0
+      ≡ writingNumber (composeOf (source sort number primary short groups information scheme))
+  pub compose-power : (short groups : ℕ) →
+      bits (powerAnswer short groups) 7 0 ≡ writingNumber (composePowerOf short groups)
 
 -- ---- the numbers
 
@@ -71,6 +110,18 @@ pub record Numbered (map store image : List ℕ) : Type 0 where
 
 abbrev pub FacesNumbered : Type 0
 FacesNumbered = (map store image : List ℕ) → Numbered map store image
+
+-- a number that does not fit a byte is refused, and not cut: 7 to 11, then 6 of a start, 14 of a look
+pub record NotCut (map store : List ℕ) : Type 0 where
+  pub start : (image : List ℕ) (address groups : ℕ) → 255 < address →
+      startFace map store image address groups .reply .number ≡ thenNumber map store (length image) 6
+  pub bank : (bank location : ℕ) → 255 < bank →
+      lookNumber map store bank location ≡ thenNumber map store (length store) 14
+  pub location : (bank location : ℕ) → 255 < location →
+      lookNumber map store bank location ≡ thenNumber map store (length store) 14
+
+abbrev pub FacesNotCut : Type 0
+FacesNotCut = (map store : List ℕ) → NotCut map store
 
 -- a refusal: no answer; these state bytes and this store, byte for byte
 pub record Refuses (f : Faced) (bytes store : List ℕ) : Type 0 where

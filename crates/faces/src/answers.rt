@@ -1,6 +1,7 @@
 // An answer as one number.
 ghost use mathlib.Core.Path.{_≡_};
-ghost use Rattle.frames.specs.Values.{writingWord};
+ghost use Rattle.frames.specs.Values.{writingWord, WritingFits};
+ghost use Rattle.looks.specs.Look.{refusedLook};
 ghost use Rattle.faces.specs.Answers.{refusal, replyWord, lookWord};
 use frames::Writing;
 use looks::Looked;
@@ -29,11 +30,23 @@ pub fn look_word(looked: Looked) -> u32
     looked.number as u32 + looked.width as u32 * 256 + looked.offset as u32 * 65536
 }
 
+pub fn no_look_word(number: u8) -> u32
+    ensures { λ r. ⌜ r ≡ lookWord (refusedLook number) ⌝ }
+{
+    look_word(Looked {
+        number: number,
+        width: 0,
+        offset: 0,
+    })
+}
+
+// Internal: a frame has 24 bits.
 pub fn writing_word(writing: Writing) -> u32
+    requires { ⌜ WritingFits writing ⌝ }
     ensures { λ r. ⌜ r ≡ writingWord writing ⌝ }
 {
     match writing {
-        Writing::Frame(frame) => frame,
-        Writing::Refused(number) => number as u32 * 16777216,
+        Writing::Frame(frame) => frame * 256,
+        Writing::Refused(number) => number as u32,
     }
 }

@@ -6,8 +6,9 @@ ghost use Rattle.rooms.specs.Rules.{addressHolds};
 ghost use Rattle.entries.specs.Entry.{entries};
 ghost use Rattle.tracing.specs.Run.{roomFor};
 ghost use Rattle.faces.specs.Answers.{checkAnswer, lookAnswer};
-ghost use Rattle.faces.specs.Face.{shapeNumber, startFace, frameFace, powerOnFace, Faces, runFace, RunFaces};
+ghost use Rattle.faces.specs.Face.{thenNumber, startFace, frameFace, powerOnFace, Faces, runFace, RunFaces};
 use crate::answers::look_word;
+use crate::answers::no_look_word;
 use crate::answers::refusal_word;
 use crate::answers::reply_word;
 use hearing::Who;
@@ -23,37 +24,49 @@ pub fn check_face(map: &[u8], store: &[u8], image: &[u8]) -> u32
     banks::check(map, store, image) as u32
 }
 
-// Number, width and store offset of the value that begins at the bank and location.
-pub fn look_face(map: &[u8], store: &[u8], bank: u8, location: u8) -> u32
-    ensures { λ r. ⌜ r ≡ lookAnswer (now (map .entry)) (now (store .entry)) bank location ⌝ }
-{
-    look_word(looks::look_at(map, store, bank, location))
-}
-
-// The number for bytes that are no state's: 7 to 11, then 12.
-fn shape_number(map: &[u8], store: &[u8], image: &[u8]) -> u8
-    ensures { λ r. ⌜ r ≡ shapeNumber (now (map .entry)) (now (store .entry)) (length (now (image .entry))) ⌝ }
+// 7 to 11, then a number that the call gives in any case.
+fn number_then(map: &[u8], store: &[u8], image: &[u8], own: u8) -> u8
+    ensures { λ r. ⌜ r ≡ thenNumber (now (map .entry)) (now (store .entry)) (length (now (image .entry))) own ⌝ }
 {
     let number = banks::check(map, store, image);
     if number != 0 {
         return number;
     }
-    12
+    own
 }
 
-// A state is made, and the store as a power-on leaves it.
+// Number, width and store offset of the value that begins at the bank and location. They are wider than bytes, so that
+// neither is cut to fit: no value begins at one over 255.
+pub fn look_face(map: &[u8], store: &[u8], bank: u32, location: u32) -> u32
+    ensures { λ r. ⌜ r ≡ lookAnswer (now (map .entry)) (now (store .entry)) bank location ⌝ }
+{
+    if bank > 255 {
+        return no_look_word(number_then(map, store, store, 14));
+    }
+    if location > 255 {
+        return no_look_word(number_then(map, store, store, 14));
+    }
+    look_word(looks::look_at(map, store, bank as u8, location as u8))
+}
+
+// A state is made, and the store as a power-on leaves it. The address is wider than a byte, so that it is not cut to
+// fit: one over 255 is refused as any other that is out of range, with a state of all zeros.
 pub fn start_face(
     map: &[u8],
     store: &mut [u8],
     image: &[u8],
-    address: u8,
+    address: u32,
     groups: u32,
     state: &mut [u8; 96],
 ) -> u32
     ensures { λ r. ⌜ Faces r (now (state .exit)) (now (store .exit)) (startFace (now (map .entry)) (now (store .entry)) (now (image .entry)) address groups) ⌝ }
 {
+    if address > 255 {
+        *state = [0; 96];
+        return refusal_word(number_then(map, store, image, 6));
+    }
     let who = Who {
-        address: address,
+        address: address as u8,
         groups: groups,
     };
     let stepped = unit::start(map, store, image, who);
@@ -75,7 +88,7 @@ pub fn frame_face(
 {
     let bytes = *state;
     if !shape_holds(bytes) {
-        return refusal_word(shape_number(map, store, image));
+        return refusal_word(number_then(map, store, image, 12));
     }
     let heard = hearing::heard_at(clock, frame);
     let stepped = unit::step(map, store, image, unpack(bytes), heard);
@@ -90,7 +103,7 @@ pub fn power_on_face(map: &[u8], store: &mut [u8], image: &[u8], state: &mut [u8
 {
     let bytes = *state;
     if !shape_holds(bytes) {
-        return refusal_word(shape_number(map, store, image));
+        return refusal_word(number_then(map, store, image, 12));
     }
     let stepped = unit::power_on(map, store, image, unpack(bytes));
     let after = pack(stepped.state);

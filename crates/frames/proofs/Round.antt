@@ -10,12 +10,12 @@ use Rattle.laws.specs.Choice.{if_then_else_}
 use Rattle.laws.specs.Bits.{bits, bit}
 use Rattle.laws.proofs.Tests.{if-by, if-lt, if-eq, both}
 use Rattle.laws.proofs.Bits.{above-all, above-none, cut, small, bits-is}
-use Rattle.frames.specs.Values.{targetNumber, fieldPresent, fieldValue, writingWord}
+use Rattle.frames.specs.Values.{targetNumber, fieldPresent, fieldValue, writingWord, WritingFits}
 use Rattle.frames.specs.Read.{addressOf, targetOf, aimed, addressed, commandOf, schemeOf, firstField, fieldOf}
 use Rattle.frames.specs.Read.{powered, powerOf, otherOf, schemed, eventOf, readOf}
 use Rattle.frames.specs.Write.{addressFits, addressByte, targetByte, schemeBits, schemeLimit, eventFits}
 use Rattle.frames.specs.Write.{messageFits, bytesFrame, eventFrame, powerFrame, frameOf, writeOf}
-use Rattle.frames.specs.Promises.{WritesBack, ReadsBack, OneMessage}
+use Rattle.frames.specs.Promises.{WritesBack, ReadsBack, OneMessage, WritingsFit, LowByte}
 use Rattle.frames.specs.declared.message.Address.{Address}
 use Rattle.frames.specs.declared.message.Addressed.{Addressed}
 use Rattle.frames.specs.declared.message.Field.{Field}
@@ -361,13 +361,22 @@ pub one-message : OneMessage
 unfolding writeOf
 one-message m n e = if-by (λ w. writingWord (writeOf m) ≡ writingWord w → m ≡ n) (messageFits n) same other
   where
-    word : writingWord (writeOf m) ≡ frameOf m
+    word : writingWord (writeOf m) ≡ writingWord (Writing.Frame (frameOf m))
     word = ap writingWord (written m (frameOf m) e refl)
 
-    same : messageFits n ≡ true → writingWord (writeOf m) ≡ frameOf n → m ≡ n
+    same : messageFits n ≡ true → writingWord (writeOf m) ≡ writingWord (Writing.Frame (frameOf n)) → m ≡ n
     same g q =
-        let p : Reading.Got m ≡ Reading.Got n = sym (message-read m e) ∙ ap readOf (sym word ∙ q) ∙ message-read n g in
+        let s : frameOf m ≡ frameOf n = omega (arith, sym word ∙ q) in
+        let p : Reading.Got m ≡ Reading.Got n = sym (message-read m e) ∙ ap readOf s ∙ message-read n g in
         cc
 
-    other : messageFits n ≡ false → writingWord (writeOf m) ≡ 6 * 2 ^ 24 → m ≡ n
-    other g q = absurd (omega (arith, frame-below m e, sym word ∙ q))
+    other : messageFits n ≡ false → writingWord (writeOf m) ≡ writingWord (Writing.Refused 6) → m ≡ n
+    other g q = absurd (omega (arith, sym word ∙ q))
+
+pub writings-fit : WritingsFit
+unfolding writeOf
+writings-fit m = if-by WritingFits (messageFits m) (frame-below m) (λ _. omega arith)
+
+pub low-byte : LowByte
+low-byte (Writing.Frame f) h = bits-is _ 7 0 f 0 0 (omega arith) h (omega arith)
+low-byte (Writing.Refused n) h = bits-is _ 7 0 0 n 0 (omega arith) h (omega arith)

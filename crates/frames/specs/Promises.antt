@@ -2,9 +2,10 @@
 -- Assumes nothing.
 use mathlib.Core.Path.{_≡_}
 use mathlib.Core.Bool.{true}
-use Prim.Native.Nat.{ℕ}
+use Prim.Native.Nat.{ℕ, _^_, _<_}
+use Rattle.laws.specs.Bits.{bits}
 use Rattle.laws.specs.Settled.{Settles}
-use Rattle.frames.specs.Values.{writingWord}
+use Rattle.frames.specs.Values.{writingNumber, writingWord, WritingFits}
 use Rattle.frames.specs.Read.{readOf}
 use Rattle.frames.specs.Write.{messageFits, writeOf}
 use Rattle.frames.specs.declared.message.Message.{Message}
@@ -22,6 +23,14 @@ ReadsBack = (m : Message) (f : ℕ) → writeOf m ≡ Writing.Frame f → readOf
 -- no two messages that write give one frame, and no refusal's number is a frame
 abbrev pub OneMessage : Type 0
 OneMessage = (m n : Message) → messageFits m ≡ true → writingWord (writeOf m) ≡ writingWord (writeOf n) → m ≡ n
+
+-- what is written is a frame of 24 bits, or a number of one byte
+abbrev pub WritingsFit : Type 0
+WritingsFit = (m : Message) → WritingFits (writeOf m)
+
+-- the low byte of a writing's word is its number
+abbrev pub LowByte : Type 0
+LowByte = (w : Writing) → writingNumber w < 2 ^ 8 → bits (writingWord w) 7 0 ≡ writingNumber w
 
 -- results that meet the same promise are equal, for each public call
 pub record Settled : Type 0 where

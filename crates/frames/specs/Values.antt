@@ -1,7 +1,7 @@
 -- The number and the value of a target, a scheme and a field, and the case of a number and a value; and the number of
 -- an answer.
 -- Assumes nothing.
-use Prim.Native.Nat.{ℕ, _*_, _^_}
+use Prim.Native.Nat.{ℕ, _*_, _^_, _<_}
 use lib.Dec.{eqb}
 use Rattle.laws.specs.Choice.{if_then_else_}
 use Rattle.frames.specs.declared.message.Field.{Field}
@@ -64,7 +64,12 @@ abbrev pub writingNumber : Writing → ℕ
 writingNumber (Writing.Frame f) = 0
 writingNumber (Writing.Refused n) = n
 
--- a writing as one number: the refusal number stands above the 24 bits of a frame
+-- a writing as one number, number | frame << 8: the low byte is the number, 0 with a frame
 abbrev pub writingWord : Writing → ℕ
-writingWord (Writing.Frame f) = f
-writingWord (Writing.Refused n) = n * 2 ^ 24
+writingWord (Writing.Frame f) = f * 2 ^ 8
+writingWord (Writing.Refused n) = n
+
+-- a frame has 24 bits, a number eight
+abbrev pub WritingFits : Writing → Type 0
+WritingFits (Writing.Frame f) = f < 2 ^ 24
+WritingFits (Writing.Refused n) = n < 2 ^ 8

@@ -16,7 +16,7 @@ pub extern "C" fn mf_check(map: &[u8], store: &[u8], image: &[u8]) -> u32
 
 // Number, width and store offset of the value that begins at the bank and location.
 #[no_mangle]
-pub extern "C" fn mf_look(map: &[u8], store: &[u8], bank: u8, location: u8) -> u32
+pub extern "C" fn mf_look(map: &[u8], store: &[u8], bank: u32, location: u32) -> u32
     ensures { λ r. ⌜ r ≡ lookAnswer (now (map .entry)) (now (store .entry)) bank location ⌝ }
 {
     faces::look_face(map, store, bank, location)
@@ -28,7 +28,7 @@ pub extern "C" fn mf_start(
     map: &[u8],
     store: &mut [u8],
     image: &[u8],
-    address: u8,
+    address: u32,
     groups: u32,
     state: &mut [u8; 96],
 ) -> u32

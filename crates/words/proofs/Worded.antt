@@ -19,7 +19,7 @@ use Rattle.frames.specs.declared.message.Target.{Target}
 use Rattle.frames.specs.declared.message.Targeted.{Targeted}
 use Rattle.words.specs.Values.{addressKind, addressNumber, addressAt, targetKind, schemeNumber, fieldAt}
 use Rattle.words.specs.Word.{sixBytes, wordOf, messageAt, matched, messageOf}
-use Rattle.words.specs.Promises.{Held, WordGives, GivesWord, NoMessage, WordRefused}
+use Rattle.words.specs.Promises.{Held, WordGives, GivesWord, NoMessage, WordRefused, LowByte}
 
 -- each case is that of its number and its value
 address-at : (a : Address) → (addressAt (addressKind a) (addressNumber a) ≡ a) × (addressKind a < 256)
@@ -189,3 +189,22 @@ word-refused w = (refused, λ none. go none (messageOf w) (message-matches w))
     go : NoMessage w → (r : Reading) → Matches w r → r ≡ Reading.Refused 6
     go none (Reading.Got m) p = absurd (none m (p .0) (p .1))
     go none (Reading.Refused n) p = ap Reading.Refused p
+
+-- a kind, five values and a last byte
+last-byte : (w k a b c d e f : ℕ) → w ≡ k * 2 ^ 48 + sixBytes a b c d e f → f < 256 → bits w 7 0 ≡ f
+unfolding sixBytes
+last-byte w k a b c d e f sum h =
+    bits-is w 7 0 (k * 2 ^ 40 + a * 2 ^ 32 + b * 2 ^ 24 + c * 2 ^ 16 + d * 2 ^ 8 + e) f 0 (omega arith) h (omega arith)
+
+message-low : (m : Message) → bits (wordOf (Reading.Got m)) 7 0 ≡ 0
+message-low (Message.Command a t o) =
+    last-byte _ 0 (addressKind a) (addressNumber a) (targetKind t) (targetNumber t) o _ refl (omega arith)
+message-low (Message.Special n x y) = last-byte _ 1 n x y 0 0 _ refl (omega arith)
+message-low (Message.Event s x y i) =
+    last-byte _ (2 + schemeNumber s) x y (bits i 15 8) (bits i 7 0) 0 _ refl (omega arith)
+message-low (Message.Power g s) =
+    last-byte _ 7 (fieldPresent g) (fieldValue g) (fieldPresent s) (fieldValue s) 0 _ refl (omega arith)
+
+pub low-byte : LowByte
+low-byte (Reading.Got m) h = message-low m
+low-byte (Reading.Refused n) h = bits-is n 7 0 0 n 0 (omega arith) h (omega arith)

@@ -2,8 +2,9 @@
 -- Assumes nothing.
 use mathlib.Core.Path.{_≡_}
 use Prim.Native.Nat.{ℕ, _^_, _<_}
+use Rattle.laws.specs.Bits.{bits}
 use Rattle.laws.specs.Settled.{Settles}
-use Rattle.frames.specs.Values.{targetNumber, fieldValue}
+use Rattle.frames.specs.Values.{targetNumber, fieldValue, readingNumber}
 use Rattle.frames.specs.declared.message.Message.{Message}
 use Rattle.frames.specs.declared.message.Reading.{Reading}
 use Rattle.words.specs.Values.{addressNumber}
@@ -31,6 +32,10 @@ NoMessage w = (m : Message) → Held m → wordOf (Reading.Got m) ≡ w → ⊥
 abbrev pub WordRefused : Type 0
 WordRefused = (w : ℕ) →
     (messageOf w ≡ Reading.Refused 6 → NoMessage w) × (NoMessage w → messageOf w ≡ Reading.Refused 6)
+
+-- the low byte of a reading's word is its number: 0 for a message
+abbrev pub LowByte : Type 0
+LowByte = (r : Reading) → readingNumber r < 2 ^ 8 → bits (wordOf r) 7 0 ≡ readingNumber r
 
 -- results that meet the same promise are equal, for each public call
 pub record Settled : Type 0 where

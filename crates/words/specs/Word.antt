@@ -31,10 +31,11 @@ messageValues (Message.Special n x y) = sixBytes n x y 0 0 0
 messageValues (Message.Event s x y i) = sixBytes x y (bits i 15 8) (bits i 7 0) 0 0
 messageValues (Message.Power g s) = sixBytes (fieldPresent g) (fieldValue g) (fieldPresent s) (fieldValue s) 0 0
 
--- the first byte is the refusal number, 0 for a message; the second is the kind; the values follow
+-- a message: the first byte is 0, the second the kind; the values follow, and the low byte is 0. A refusal: its number,
+-- in the low byte
 abbrev pub wordOf : Reading → ℕ
 wordOf (Reading.Got m) = messageKind m * 2 ^ 48 + messageValues m
-wordOf (Reading.Refused n) = n * 2 ^ 56
+wordOf (Reading.Refused n) = n
 
 -- what a kind and five values would be
 unfoldable pub messageAt : ℕ → ℕ → ℕ → ℕ → ℕ → ℕ → Reading

@@ -84,7 +84,7 @@ pub fn word_of(reading: Reading) -> u64
 {
     match reading {
         Reading::Got(message) => message_word(message),
-        Reading::Refused(number) => wide(number) * 72057594037927936,
+        Reading::Refused(number) => wide(number),
     }
 }
 

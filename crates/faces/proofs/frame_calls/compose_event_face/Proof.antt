@@ -1,10 +1,11 @@
 -- `faces::frame_calls::compose_event_face` meets its contract.
 -- Assumes nothing.
-use Rattle.faces.proofs.Composed.{not-held}
+use Rattle.faces.proofs.Composed.{not-held, composed-fits}
 use native.Mathlib.Omega.{arith}
 use borrow.Author.Tests.{not-false}
-use mathlib.Core.Path.{_∙_}
+use mathlib.Core.Path.{sym, subst, _∙_}
 use borrow.Author.Needs.{needs}
+use Rattle.frames.specs.Values.{WritingFits}
 use Rattle.faces.proofs.frame_calls.compose_event_face.Statement.{statement}
 use Rattle.faces.proofs.frame_calls.compose_event_face.Tie as tie
 
@@ -30,5 +31,5 @@ compose-event-face-spec =
     (λ c. omega (arith, c .before .is-held .ensures .1 (not-false _ (c .if1 .left))))
     (λ c. omega (arith, c .before .is-held .ensures .1 (not-false _ (c .if1 .left))))
     (λ c κs. search needs)
-    (λ c κs. search needs)
+    (λ c κs. subst WritingFits (sym (c .compose-event .ensures)) (composed-fits _))
     (λ c. rw (c .writing-word .ensures, c .before .compose-event .ensures)))

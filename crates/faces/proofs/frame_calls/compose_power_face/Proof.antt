@@ -1,9 +1,9 @@
 -- `faces::frame_calls::compose_power_face` meets its contract.
 -- Assumes nothing.
-use Rattle.faces.proofs.Composed.{power-not-held}
-use mathlib.Core.Path.{ap, sym, _∙_}
+use Rattle.faces.proofs.Composed.{power-not-held, power-fits}
+use mathlib.Core.Path.{ap, sym, subst, _∙_}
 use borrow.Author.Needs.{needs}
-use Rattle.frames.specs.Values.{writingWord}
+use Rattle.frames.specs.Values.{writingWord, WritingFits}
 use Rattle.faces.proofs.frame_calls.compose_power_face.Statement.{statement}
 use Rattle.faces.proofs.frame_calls.compose_power_face.Tie as tie
 
@@ -18,5 +18,5 @@ compose-power-face-spec =
     returns
     (λ c. search needs)
     (λ c κs. search needs)
-    (λ c κs. search needs)
+    (λ c κs. subst WritingFits (sym (c .compose-power .ensures)) (power-fits _ _))
     (λ c. rw (c .writing-word .ensures, c .before .compose-power .ensures)))

@@ -1,7 +1,9 @@
 -- `faces::frame_calls::write_face` meets its contract.
 -- Assumes nothing.
-use mathlib.Core.Path.{sym, _∙_}
+use mathlib.Core.Path.{sym, subst, _∙_}
 use borrow.Author.Needs.{needs}
+use Rattle.frames.specs.Values.{WritingFits}
+use Rattle.frames.proofs.Round.{writings-fit}
 use Rattle.faces.proofs.frame_calls.write_face.Statement.{statement}
 use Rattle.faces.proofs.frame_calls.write_face.Tie as tie
 
@@ -26,5 +28,5 @@ write-face-spec =
     (λ c κs. search needs)
     returns
     (λ c κs. search needs)
-    (λ c κs. search needs)
+    (λ c κs. subst WritingFits (sym (c .write .ensures)) (writings-fit _))
     returns-2)

@@ -11,7 +11,7 @@ unfolding frameFace
 returns c =
     let tested = c .before .before .before in
     unshaped _ _ _ _ _ (tested .before .shape-holds .ensures) _ (tested .if1 .taken)
-    _ (c .before .shape-number .ensures) _ (c .refusal-word .ensures)
+    _ (c .before .number-then .ensures) _ (c .refusal-word .ensures)
 
 returns-2 : tie.Need-returns-2
 unfolding frameFace

@@ -12,6 +12,5 @@ word-of-spec =
     (λ c κs. search needs)
     (λ c. search needs)
     (λ c κs. search needs)
-    (λ c. search needs)
     (λ c. simp (c .before .before .reading .given .1) (c .message-word .ensures))
     (λ c. simp (c .before .before .reading2 .given .1, ← c .wide .ensures)))
