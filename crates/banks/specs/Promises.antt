@@ -82,7 +82,10 @@ CheckStaysPut =
     → length bytes ≡ r .width → (r .first ≡ 0x00 → ⊥)
     → checkNumber map (putValue r bytes store) kept ≡ checkNumber map store kept
 
--- Answers that meet the same promise are equal.
+-- What the public call promises of its result r; answers that meet the same promise are equal.
+
+abbrev pub CheckPromise : List ℕ → List ℕ → List ℕ → ℕ → Type 0
+CheckPromise map store image r = r ≡ checkNumber map store (length image)
 
 abbrev pub CheckSettled : Type 0
-CheckSettled = (map store image : List ℕ) → Settles (λ (r : ℕ). r ≡ checkNumber map store (length image))
+CheckSettled = (map store image : List ℕ) → Settles (CheckPromise map store image)

@@ -6,8 +6,6 @@ mod parts; // a value's part of the store
 pub use lock::lock_byte;
 pub use parts::padded_part;
 pub use parts::put_value;
-pub use rules::banks_hold;
 pub use rules::check;
 pub use rules::check_number;
-pub use rules::head_bytes_hold;
 pub use rules::is_lock;

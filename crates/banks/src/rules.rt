@@ -11,6 +11,7 @@ ghost use Rattle.banks.specs.Rules.{lengthsHold, inside, clear, disjoint
 ghost use Rattle.banks.specs.Rules.{isHead, isLock, bankHas, bankHolds, banksHold};
 ghost use Rattle.banks.specs.Rules.{endsBy, headByteHolds, headHolds, headBytesHold};
 ghost use Rattle.banks.specs.Rules.{placeTests, bankTests, checkNumber};
+ghost use Rattle.banks.specs.Promises.{CheckPromise};
 use records::Found;
 use records::Record;
 use records::is_writable;
@@ -152,7 +153,7 @@ fn bank_holds(map: &[u8], r: Record) -> bool
 }
 
 // 11, what the map itself must have. Internal, as above.
-pub fn banks_hold(map: &[u8]) -> bool
+fn banks_hold(map: &[u8]) -> bool
     requires { ⌜ ordered (now map) ≡ true ⌝ }
     ensures { λ b. ⌜ b ≡ banksHold (recordsOf (now (map .entry))) ⌝ }
 {
@@ -212,7 +213,7 @@ fn head_holds(map: &[u8], store: &[u8], r: Record) -> bool
 }
 
 // 11, the stored bytes at 0x00. Internal: map and store have passed 7 to 10.
-pub fn head_bytes_hold(map: &[u8], store: &[u8]) -> bool
+fn head_bytes_hold(map: &[u8], store: &[u8]) -> bool
     requires { ⌜ placed (now map) (length (now store)) ≡ true ⌝ }
     ensures { λ b. ⌜ b ≡ headBytesHold (recordsOf (now (map .entry))) (now (store .entry)) ⌝ }
 {
@@ -269,7 +270,7 @@ pub fn check_number(map: &[u8], store: &[u8], kept: usize) -> u8
 
 // The number of map, store and reset image: 7 to 11, or 0.
 pub fn check(map: &[u8], store: &[u8], image: &[u8]) -> u8
-    ensures { λ r. ⌜ r ≡ checkNumber (now (map .entry)) (now (store .entry)) (length (now (image .entry))) ⌝ }
+    ensures { λ r. ⌜ CheckPromise (now (map .entry)) (now (store .entry)) (now (image .entry)) r ⌝ }
 {
     check_number(map, store, image.len())
 }

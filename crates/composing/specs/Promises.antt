@@ -58,7 +58,14 @@ Lowest = (groups : ℕ) → 0 < groups → groups < 2 ^ 32 →
     × (bit groups (trailingZeros 32 groups) ≡ 1)
     × ((k : ℕ) → k < trailingZeros 32 groups → bit groups k ≡ 0)
 
+-- what each public call promises of its result r
+abbrev pub ComposeEventPromise : Source → Writing → Type 0
+ComposeEventPromise source r = r ≡ composeOf source
+
+abbrev pub ComposePowerPromise : ℕ → ℕ → Writing → Type 0
+ComposePowerPromise short groups r = r ≡ composePowerOf short groups
+
 -- results that meet the same promise are equal, for each public call
 pub record Settled : Type 0 where
-  pub compose-event : (e : Source) → Settles (λ (r : Writing). r ≡ composeOf e)
-  pub compose-power : (short groups : ℕ) → Settles (λ (r : Writing). r ≡ composePowerOf short groups)
+  pub compose-event : (e : Source) → Settles (ComposeEventPromise e)
+  pub compose-power : (short groups : ℕ) → Settles (ComposePowerPromise short groups)

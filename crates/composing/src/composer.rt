@@ -1,7 +1,8 @@
 // Events, composed.
 ghost use mathlib.Core.Path.{_≡_};
 ghost use Rattle.composing.specs.Compose.{orMissing, sourceFits, shippedOf, orBlank, lowestGroup, firstCarried};
-ghost use Rattle.composing.specs.Compose.{secondCarried, eventWith, eventAs, eventBy, composeOf, composePowerOf};
+ghost use Rattle.composing.specs.Compose.{secondCarried, eventWith, eventAs, eventBy};
+ghost use Rattle.composing.specs.Promises.{ComposeEventPromise, ComposePowerPromise};
 use crate::source::Source;
 use frames::Field;
 use frames::Message;
@@ -122,7 +123,7 @@ fn event_by(source: Source) -> Message
 }
 
 pub fn compose_event(source: Source) -> Writing
-    ensures { λ r. ⌜ r ≡ composeOf source ⌝ }
+    ensures { λ r. ⌜ ComposeEventPromise source r ⌝ }
 {
     if source_fits(source) {
         return write(event_by(source));
@@ -131,7 +132,7 @@ pub fn compose_event(source: Source) -> Writing
 }
 
 pub fn compose_power(short: u8, groups: u32) -> Writing
-    ensures { λ r. ⌜ r ≡ composePowerOf short groups ⌝ }
+    ensures { λ r. ⌜ ComposePowerPromise short groups r ⌝ }
 {
     if or_missing(short, 64) {
         return write(Message::Power(lowest_group(groups), or_blank(short)));

@@ -8,8 +8,9 @@ use mathlib.Core.List.{List, _++_}
 use lib.Dec.{eqb}
 use lib.ListN.{length, take}
 use Rattle.laws.specs.Settled.{Settles}
-use Rattle.entries.specs.Entry.{entryAt, entries}
+use Rattle.entries.specs.Entry.{fourBytes, entryAt, entries}
 use Rattle.entries.specs.Slices.{Keeps}
+use Rattle.entries.specs.declared.entry.Entry.{Entry}
 
 -- the records of two slices, one after the other, the first of k whole records, are the records of both
 abbrev pub RecordsJoined : Type 0
@@ -27,11 +28,25 @@ abbrev pub RestKept : Type 0
 RestKept = (kept : ℕ) (before after : List ℕ) (filled : ℕ)
     → filled ≤ length before → Keeps kept before after filled → Rest kept before after filled
 
+-- ---- what each call promises of its result r, and of the bytes it leaves
+
+abbrev pub FourBytesPromise : ℕ → ℕ → ℕ → ℕ → ℕ → Type 0
+FourBytesPromise a b c d r = r ≡ fourBytes a b c d
+
+abbrev pub EntryAtPromise : List ℕ → ℕ → Entry → Type 0
+EntryAtPromise bytes i r = r ≡ entryAt bytes i
+
+abbrev pub KeepRestPromise : List ℕ → ℕ → ℕ → List ℕ → Type 0
+KeepRestPromise before filled r after = Keeps r before after filled
+
 -- ---- results meeting the same promise are equal
 
 abbrev pub RestSettled : Type 0
 RestSettled = (before : List ℕ) (filled q r : ℕ) (after left : List ℕ)
-    → Keeps q before after filled → Keeps r before left filled → (q ≡ r) × (after ≡ left)
+    → KeepRestPromise before filled q after → KeepRestPromise before filled r left → (q ≡ r) × (after ≡ left)
 
 abbrev pub EntrySettled : Type 0
-EntrySettled = (bytes : List ℕ) (i : ℕ) → Settles (λ e. e ≡ entryAt bytes i)
+EntrySettled = (bytes : List ℕ) (i : ℕ) → Settles (EntryAtPromise bytes i)
+
+abbrev pub FourBytesSettled : Type 0
+FourBytesSettled = (a b c d : ℕ) → Settles (FourBytesPromise a b c d)

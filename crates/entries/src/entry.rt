@@ -2,7 +2,8 @@
 ghost use mathlib.Core.Path.{_≡_};
 ghost use Prim.Native.Nat.{_+_, _*_, _≤_};
 ghost use lib.ListN.{length};
-ghost use Rattle.entries.specs.Entry.{fourBytes, entryOf, entryAt, isBroken};
+ghost use Rattle.entries.specs.Entry.{entryOf, isBroken};
+ghost use Rattle.entries.specs.Promises.{FourBytesPromise, EntryAtPromise};
 
 // A frame record has its clock and its frame.
 pub enum Entry {
@@ -13,7 +14,7 @@ pub enum Entry {
 
 // Four bytes, high first.
 pub fn four_bytes(a: u8, b: u8, c: u8, d: u8) -> u32
-    ensures { λ r. ⌜ r ≡ fourBytes a b c d ⌝ }
+    ensures { λ r. ⌜ FourBytesPromise a b c d r ⌝ }
 {
     ((a as u32 * 256 + b as u32) * 256 + c as u32) * 256 + d as u32
 }
@@ -34,7 +35,7 @@ fn entry_of(kind: u8, clock: u32, frame: u32) -> Entry
 // Internal: record number i, which is there as a whole.
 pub fn entry_at(records: &[u8], i: usize) -> Entry
     requires { ⌜ 8 * i + 8 ≤ length (now records) ⌝ }
-    ensures { λ r. ⌜ r ≡ entryAt (now (records .entry)) i ⌝ }
+    ensures { λ r. ⌜ EntryAtPromise (now (records .entry)) i r ⌝ }
 {
     let at = 8 * i;
     let clock = four_bytes(

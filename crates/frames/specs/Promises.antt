@@ -32,7 +32,14 @@ WritingsFit = (m : Message) → WritingFits (writeOf m)
 abbrev pub LowByte : Type 0
 LowByte = (w : Writing) → writingNumber w < 2 ^ 8 → bits (writingWord w) 7 0 ≡ writingNumber w
 
+-- what each public call promises of its result r
+abbrev pub ReadPromise : ℕ → Reading → Type 0
+ReadPromise frame r = r ≡ readOf frame
+
+abbrev pub WritePromise : Message → Writing → Type 0
+WritePromise message r = r ≡ writeOf message
+
 -- results that meet the same promise are equal, for each public call
 pub record Settled : Type 0 where
-  pub read : (f : ℕ) → Settles (λ (r : Reading). r ≡ readOf f)
-  pub write : (m : Message) → Settles (λ (r : Writing). r ≡ writeOf m)
+  pub read : (f : ℕ) → Settles (ReadPromise f)
+  pub write : (m : Message) → Settles (WritePromise m)

@@ -6,13 +6,10 @@ mod reader; // from a frame to a message
 mod writer; // from a message to a frame
 
 pub use message::Address;
-pub use message::Addressed;
 pub use message::Field;
-pub use message::Fielded;
 pub use message::Message;
 pub use message::Reading;
 pub use message::Scheme;
-pub use message::Schemed;
 pub use message::Target;
 pub use message::Targeted;
 pub use message::Writing;

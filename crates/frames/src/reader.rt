@@ -1,7 +1,8 @@
 // From a frame to a message.
 ghost use mathlib.Core.Path.{_≡_};
 ghost use Rattle.frames.specs.Read.{addressOf, targetOf, aimed, commandOf, fieldOf, powerOf, schemeOf};
-ghost use Rattle.frames.specs.Read.{firstField, otherOf, eventOf, readOf};
+ghost use Rattle.frames.specs.Read.{firstField, otherOf, eventOf};
+ghost use Rattle.frames.specs.Promises.{ReadPromise};
 use crate::kinds::kind;
 use crate::message::Address;
 use crate::message::Addressed;
@@ -156,7 +157,7 @@ fn read_event(frame: u32) -> Reading
 }
 
 pub fn read(frame: u32) -> Reading
-    ensures { λ r. ⌜ r ≡ readOf frame ⌝ }
+    ensures { λ r. ⌜ ReadPromise frame r ⌝ }
 {
     if frame < 16777216 {
         let b16 = frame / 65536 % 2;

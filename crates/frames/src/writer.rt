@@ -5,7 +5,8 @@ ghost use Prim.Native.Nat.{_<_};
 ghost use lib.Dec.{ltb};
 ghost use Rattle.frames.specs.Values.{targetNumber, fieldValue};
 ghost use Rattle.frames.specs.Write.{addressByte, addressFits, targetByte, schemeBits, schemeLimit, eventFits};
-ghost use Rattle.frames.specs.Write.{messageFits, bytesFrame, eventFrame, powerFrame, frameOf, writeOf};
+ghost use Rattle.frames.specs.Write.{messageFits, bytesFrame, eventFrame, powerFrame, frameOf};
+ghost use Rattle.frames.specs.Promises.{WritePromise};
 use crate::message::Address;
 use crate::message::Field;
 use crate::message::Message;
@@ -174,7 +175,7 @@ fn frame_of(message: Message) -> u32
 }
 
 pub fn write(message: Message) -> Writing
-    ensures { λ r. ⌜ r ≡ writeOf message ⌝ }
+    ensures { λ r. ⌜ WritePromise message r ⌝ }
 {
     if message_fits(message) {
         return Writing::Frame(frame_of(message));

@@ -14,7 +14,7 @@ use frames::Reading;
 use frames::Target;
 
 // Whether the address means the unit.
-pub fn is_for(who: Who, address: Address) -> bool
+fn is_for(who: Who, address: Address) -> bool
     ensures { λ r. ⌜ r ≡ isFor who address ⌝ }
 {
     match address {
@@ -36,7 +36,7 @@ fn is_member(groups: u32, group: u8) -> bool
     }
 }
 
-pub fn command_at(target: Target, opcode: u8) -> Meaning
+fn command_at(target: Target, opcode: u8) -> Meaning
     ensures { λ r. ⌜ r ≡ commandAt target opcode ⌝ }
 {
     match target {

@@ -6,13 +6,8 @@ mod asked; // from a frame to what it asks of the unit
 mod pairs; // the pair rule
 
 pub use asked::closes;
-pub use asked::command_at;
-pub use asked::is_for;
 pub use asked::meaning_of;
 pub use asked::message_meaning;
-pub use listed::device_command;
-pub use listed::first_special;
-pub use listed::special_command;
 pub use meaning::Meaning;
 pub use meaning::Once;
 pub use meaning::Twice;

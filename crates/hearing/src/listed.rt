@@ -31,7 +31,7 @@ pub fn device_command(opcode: u8) -> Meaning
 }
 
 // 0xC1, by its first free byte.
-pub fn first_special(first: u8, second: u8) -> Meaning
+fn first_special(first: u8, second: u8) -> Meaning
     ensures { λ r. ⌜ r ≡ firstSpecial first second ⌝ }
 {
     match first {

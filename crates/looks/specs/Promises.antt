@@ -47,16 +47,23 @@ LookEmpty =
     (map store : List ℕ) (bank location : ℕ)
     → (lookBytes map store bank location ≡ []) ↔ (lookNumber map store bank location ≡ 0 → ⊥)
 
--- Answers that meet the same promise are equal; of `look`, the bytes of the part are.
+-- What each public call promises of its result r, or of the bytes of its part. Answers that meet the same promise are
+-- equal; of `look`, the bytes of the part are.
+
+abbrev pub LookAtPromise : List ℕ → List ℕ → ℕ → ℕ → Looked → Type 0
+LookAtPromise map store bank location r = r ≡ lookOf map store bank location
+
+abbrev pub LookNumberPromise : List ℕ → List ℕ → ℕ → ℕ → ℕ → Type 0
+LookNumberPromise map store bank location r = r ≡ lookNumber map store bank location
+
+abbrev pub LookPromise : List ℕ → List ℕ → ℕ → ℕ → List ℕ → Type 0
+LookPromise map store bank location bytes = bytes ≡ lookBytes map store bank location
 
 abbrev pub LookAtSettled : Type 0
-LookAtSettled =
-    (map store : List ℕ) (bank location : ℕ) → Settles (λ (r : Looked). r ≡ lookOf map store bank location)
+LookAtSettled = (map store : List ℕ) (bank location : ℕ) → Settles (LookAtPromise map store bank location)
 
 abbrev pub LookNumberSettled : Type 0
-LookNumberSettled =
-    (map store : List ℕ) (bank location : ℕ) → Settles (λ (r : ℕ). r ≡ lookNumber map store bank location)
+LookNumberSettled = (map store : List ℕ) (bank location : ℕ) → Settles (LookNumberPromise map store bank location)
 
 abbrev pub LookSettled : Type 0
-LookSettled =
-    (map store : List ℕ) (bank location : ℕ) → Settles (λ (bytes : List ℕ). bytes ≡ lookBytes map store bank location)
+LookSettled = (map store : List ℕ) (bank location : ℕ) → Settles (LookPromise map store bank location)

@@ -1,7 +1,8 @@
 // The look calls: the stored bytes of a value that begins at a given bank and location. They have no image: the store
 // stands for it.
 ghost use mathlib.Core.Path.{_≡_};
-ghost use Rattle.looks.specs.Look.{lookNumber, refusedLook, placeOf, lookOf, lookBytes};
+ghost use Rattle.looks.specs.Look.{refusedLook, placeOf};
+ghost use Rattle.looks.specs.Promises.{LookAtPromise, LookNumberPromise, LookPromise};
 use banks::check_number;
 use records::Beginning;
 use records::value_at;
@@ -39,7 +40,7 @@ fn place_of(value: Beginning) -> Looked
 
 // Number, width and offset of the value that begins at the bank and location.
 pub fn look_at(map: &[u8], store: &[u8], bank: u8, location: u8) -> Looked
-    ensures { λ r. ⌜ r ≡ lookOf (now (map .entry)) (now (store .entry)) bank location ⌝ }
+    ensures { λ r. ⌜ LookAtPromise (now (map .entry)) (now (store .entry)) bank location r ⌝ }
 {
     let number = check_number(map, store, store.len());
     if number != 0 {
@@ -51,7 +52,7 @@ pub fn look_at(map: &[u8], store: &[u8], bank: u8, location: u8) -> Looked
 
 // The number of a look: 7 to 11, then 14, or 0.
 pub fn look_number(map: &[u8], store: &[u8], bank: u8, location: u8) -> u8
-    ensures { λ r. ⌜ r ≡ lookNumber (now (map .entry)) (now (store .entry)) bank location ⌝ }
+    ensures { λ r. ⌜ LookNumberPromise (now (map .entry)) (now (store .entry)) bank location r ⌝ }
 {
     let looked = look_at(map, store, bank, location);
     looked.number
@@ -59,7 +60,7 @@ pub fn look_number(map: &[u8], store: &[u8], bank: u8, location: u8) -> u8
 
 // The stored bytes themselves, no copy: a part of the lent store, and the empty part on refusal.
 pub fn look<'a>(map: &[u8], store: &'a [u8], bank: u8, location: u8) -> &'a [u8]
-    ensures { λ r. ⌜ now r ≡ lookBytes (now (map .entry)) (now (store .entry)) bank location ⌝ }
+    ensures { λ r. ⌜ LookPromise (now (map .entry)) (now (store .entry)) bank location (now r) ⌝ }
 {
     let looked = look_at(map, store, bank, location);
     let offset = looked.offset as usize;

@@ -27,6 +27,7 @@ numbers-settled map store image =
     record {
       start-number = λ who. settles (startNumber map store (length image) who);
       power-number = λ s. settles (powerNumber map store (length image) s);
+      heard-number = λ s heard. settles (heardNumber map store s heard);
       step-number = λ s heard. settles (stepNumber map store (length image) s heard);
     }
 

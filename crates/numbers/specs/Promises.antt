@@ -20,11 +20,25 @@ use Rattle.rooms.specs.declared.state.State.{State}
 use Rattle.numbers.specs.Numbers.{startTests, startNumber, powerTests, powerNumber, heardNumber, stepTests}
 use Rattle.numbers.specs.Numbers.{stepNumber}
 
+-- what each call promises of its result r
+abbrev pub StartNumberPromise : List ℕ → List ℕ → List ℕ → Who → ℕ → Type 0
+StartNumberPromise map store image who r = r ≡ startNumber map store (length image) who
+
+abbrev pub PowerNumberPromise : List ℕ → List ℕ → List ℕ → State → ℕ → Type 0
+PowerNumberPromise map store image s r = r ≡ powerNumber map store (length image) s
+
+abbrev pub HeardNumberPromise : List ℕ → List ℕ → State → Heard → ℕ → Type 0
+HeardNumberPromise map store s heard r = r ≡ heardNumber map store s heard
+
+abbrev pub StepNumberPromise : List ℕ → List ℕ → List ℕ → State → Heard → ℕ → Type 0
+StepNumberPromise map store image s heard r = r ≡ stepNumber map store (length image) s heard
+
 -- results meeting the same promise are equal
 pub record Settled (map store image : List ℕ) : Type 0 where
-  pub start-number : (who : Who) → Settles (λ n. n ≡ startNumber map store (length image) who)
-  pub power-number : (s : State) → Settles (λ n. n ≡ powerNumber map store (length image) s)
-  pub step-number : (s : State) (heard : Heard) → Settles (λ n. n ≡ stepNumber map store (length image) s heard)
+  pub start-number : (who : Who) → Settles (StartNumberPromise map store image who)
+  pub power-number : (s : State) → Settles (PowerNumberPromise map store image s)
+  pub heard-number : (s : State) (heard : Heard) → Settles (HeardNumberPromise map store s heard)
+  pub step-number : (s : State) (heard : Heard) → Settles (StepNumberPromise map store image s heard)
 
 -- a number is given exactly if every test before its own passes and its own fails; 0 exactly if all pass
 pub record GivenBy (number : ℕ) (tests : List Test) : Type 0 where

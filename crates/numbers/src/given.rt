@@ -3,7 +3,8 @@ ghost use mathlib.Core.Path.{_≡_};
 ghost use mathlib.Core.Bool.{true};
 ghost use lib.ListN.{length};
 ghost use Rattle.banks.specs.Rules.{placed};
-ghost use Rattle.numbers.specs.Numbers.{heardNumber, stepNumber, powerNumber, startNumber};
+ghost use Rattle.numbers.specs.Promises.{StartNumberPromise, PowerNumberPromise};
+ghost use Rattle.numbers.specs.Promises.{HeardNumberPromise, StepNumberPromise};
 use hearing::Heard;
 use hearing::Who;
 use rooms::State;
@@ -12,7 +13,7 @@ use rooms::state_holds;
 
 // The number of a power-on: 7 to 12, or 0.
 pub fn power_number(map: &[u8], store: &[u8], image: &[u8], state: State) -> u8
-    ensures { λ r. ⌜ r ≡ powerNumber (now (map .entry)) (now (store .entry)) (length (now (image .entry))) state ⌝ }
+    ensures { λ r. ⌜ PowerNumberPromise (now (map .entry)) (now (store .entry)) (now (image .entry)) state r ⌝ }
 {
     let number = banks::check(map, store, image);
     if number != 0 {
@@ -28,14 +29,14 @@ pub fn power_number(map: &[u8], store: &[u8], image: &[u8], state: State) -> u8
 // Internal: the number of what is heard: 1, or 0. Map, store and state have passed 7 to 12.
 pub fn heard_number(map: &[u8], store: &[u8], state: State, heard: Heard) -> u8
     requires { ⌜ placed (now map) (length (now store)) ≡ true ⌝ }
-    ensures { λ r. ⌜ r ≡ heardNumber (now (map .entry)) (now (store .entry)) state heard ⌝ }
+    ensures { λ r. ⌜ HeardNumberPromise (now (map .entry)) (now (store .entry)) state heard r ⌝ }
 {
     if heard.frame < 16777216 { 0 } else { 1 }
 }
 
 // The number of a frame step: 7 to 12, then that of what is heard.
 pub fn step_number(map: &[u8], store: &[u8], image: &[u8], state: State, heard: Heard) -> u8
-    ensures { λ r. ⌜ r ≡ stepNumber (now (map .entry)) (now (store .entry)) (length (now (image .entry))) state heard ⌝ }
+    ensures { λ r. ⌜ StepNumberPromise (now (map .entry)) (now (store .entry)) (now (image .entry)) state heard r ⌝ }
 {
     let number = power_number(map, store, image, state);
     if number != 0 {
@@ -46,7 +47,7 @@ pub fn step_number(map: &[u8], store: &[u8], image: &[u8], state: State, heard: 
 
 // The number of a start: 7 to 11, then 6, or 0.
 pub fn start_number(map: &[u8], store: &[u8], image: &[u8], who: Who) -> u8
-    ensures { λ r. ⌜ r ≡ startNumber (now (map .entry)) (now (store .entry)) (length (now (image .entry))) who ⌝ }
+    ensures { λ r. ⌜ StartNumberPromise (now (map .entry)) (now (store .entry)) (now (image .entry)) who r ⌝ }
 {
     let number = banks::check(map, store, image);
     if number != 0 {

@@ -64,7 +64,10 @@ MappedMember =
     (map : List ℕ) (bank : ℕ)
     → (mapped (recordsOf map) bank ≡ true) ↔ ((r : Record) × Member r map × (r .bank ≡ bank))
 
--- Answers that meet the same promise are equal.
+-- What the public call promises of its result r; answers that meet the same promise are equal.
+
+abbrev pub OrderNumberPromise : List ℕ → ℕ → Type 0
+OrderNumberPromise map r = r ≡ orderNumber map
 
 abbrev pub OrderSettled : Type 0
-OrderSettled = (map : List ℕ) → Settles (λ (r : ℕ). r ≡ orderNumber map)
+OrderSettled = (map : List ℕ) → Settles (OrderNumberPromise map)

@@ -2,7 +2,8 @@
 ghost use mathlib.Core.Path.{_≡_};
 ghost use Rattle.laws.specs.Lists.{every};
 ghost use Rattle.records.specs.Map.{recordsOf};
-ghost use Rattle.records.specs.Order.{sizeHolds, lockableHolds, fieldsHold, before, rising, orderNumber};
+ghost use Rattle.records.specs.Order.{sizeHolds, lockableHolds, fieldsHold, before, rising};
+ghost use Rattle.records.specs.Promises.{OrderNumberPromise};
 use crate::record::Record;
 use crate::record::is_writable;
 use crate::record::locations_end;
@@ -80,7 +81,7 @@ fn is_rising(map: &[u8]) -> bool
 
 // The number of a map by itself: 7, 8, 9, or 0.
 pub fn order_number(map: &[u8]) -> u8
-    ensures { λ r. ⌜ r ≡ orderNumber (now (map .entry)) ⌝ }
+    ensures { λ r. ⌜ OrderNumberPromise (now (map .entry)) r ⌝ }
 {
     if !size_holds(map.len()) {
         return 7;

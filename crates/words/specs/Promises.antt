@@ -37,7 +37,14 @@ WordRefused = (w : ℕ) →
 abbrev pub LowByte : Type 0
 LowByte = (r : Reading) → readingNumber r < 2 ^ 8 → bits (wordOf r) 7 0 ≡ readingNumber r
 
+-- what each public call promises of its result r
+abbrev pub WordOfPromise : Reading → ℕ → Type 0
+WordOfPromise reading r = r ≡ wordOf reading
+
+abbrev pub MessageOfPromise : ℕ → Reading → Type 0
+MessageOfPromise word r = r ≡ messageOf word
+
 -- results that meet the same promise are equal, for each public call
 pub record Settled : Type 0 where
-  pub word-of : (x : Reading) → Settles (λ (r : ℕ). r ≡ wordOf x)
-  pub message-of : (w : ℕ) → Settles (λ (r : Reading). r ≡ messageOf w)
+  pub word-of : (x : Reading) → Settles (WordOfPromise x)
+  pub message-of : (w : ℕ) → Settles (MessageOfPromise w)

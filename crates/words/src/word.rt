@@ -1,7 +1,8 @@
 // A reading as one number of eight bytes, and back.
 ghost use mathlib.Core.Path.{_≡_};
 ghost use Prim.Native.Nat.{_<_, _^_};
-ghost use Rattle.words.specs.Word.{sixBytes, messageKind, messageValues, wordOf, messageAt, matched, messageOf};
+ghost use Rattle.words.specs.Word.{sixBytes, messageKind, messageValues, wordOf, messageAt, matched};
+ghost use Rattle.words.specs.Promises.{WordOfPromise, MessageOfPromise};
 use crate::values::address_at;
 use crate::values::address_kind;
 use crate::values::address_number;
@@ -80,7 +81,7 @@ fn message_word(message: Message) -> u64
 }
 
 pub fn word_of(reading: Reading) -> u64
-    ensures { λ r. ⌜ r ≡ wordOf reading ⌝ }
+    ensures { λ r. ⌜ WordOfPromise reading r ⌝ }
 {
     match reading {
         Reading::Got(message) => message_word(message),
@@ -119,7 +120,7 @@ fn matched_with(reading: Reading, word: u64) -> Reading
 }
 
 pub fn message_of(word: u64) -> Reading
-    ensures { λ r. ⌜ r ≡ messageOf word ⌝ }
+    ensures { λ r. ⌜ MessageOfPromise word r ⌝ }
 {
     let kind = (word / 281474976710656 % 256) as u8;
     let a = (word / 1099511627776 % 256) as u8;
