@@ -1,0 +1,247 @@
+-- Each claim by its theorem, in the order of the page. A theorem that is gone, or no longer public, is refused here,
+-- and so is a field that is left out.
+-- Assumes nothing.
+use Rattle.laws.proofs.Numbers.{exactly-if}
+use Rattle.frames.proofs.Round.{writes-back, reads-back, one-message, writings-fit, low-byte as frames-low-byte}
+use Rattle.frames.proofs.Refusals.{reserved-14, reserved-59, reader-numbers, writer-numbers}
+use Rattle.frames.proofs.Exactly.{exactly as frames-exactly}
+use Rattle.frames.proofs.Settled.{settled as frames-settled}
+use Rattle.words.proofs.Worded.{word-gives, gives-word, word-refused, low-byte as words-low-byte}
+use Rattle.words.proofs.Settled.{settled as words-settled}
+use Rattle.composing.proofs.Composed.{composes, carries, falls-back, composes-power, lowest, composer-numbers}
+use Rattle.composing.proofs.Composed.{power-numbers}
+use Rattle.composing.proofs.Exactly.{exactly as composing-exactly}
+use Rattle.composing.proofs.Bench.{sheet-holds as composing-sheet-holds}
+use Rattle.composing.proofs.Settled.{settled as composing-settled}
+use Rattle.records.proofs.Ordered.{order-stands, order-numbers, order-settled}
+use Rattle.records.proofs.Cases.{order-cases}
+use Rattle.banks.proofs.Standing.{check-stands, check-numbers, check-settled}
+use Rattle.banks.proofs.Cases.{check-cases}
+use Rattle.looks.proofs.Looks.{look-shows, look-stands, look-empty, look-numbers, look-at-settled}
+use Rattle.looks.proofs.Looks.{look-number-settled, look-settled}
+use Rattle.looks.proofs.Cases.{look-cases}
+use Rattle.entries.proofs.Cases.{cases as entries-cases}
+use Rattle.entries.proofs.Moved.{rest-kept, rest-settled}
+use Rattle.entries.proofs.Codes.{one-entry, broken-is-13}
+use Rattle.entries.proofs.Settled.{entry-settled}
+use Rattle.memory.proofs.StagedRoom.{write-value}
+use Rattle.memory.proofs.LatchRoom.{read-latched}
+use Rattle.memory.proofs.Fills.{fill-value}
+use Rattle.memory.proofs.Locks.{fill-locks}
+use Rattle.memory.proofs.Writes.{write-not-last}
+use Rattle.memory.proofs.Run.{whole-value}
+use Rattle.hearing.proofs.PairRule.{pair-clocks, no-pair}
+use Rattle.hearing.proofs.Addressing.{for-the-unit, special-for-all}
+use Rattle.hearing.proofs.Codes.{code-stands}
+use Rattle.hearing.proofs.Foreign.{event-foreign, reserved-foreign}
+use Rattle.hearing.proofs.Closing.{eleven-keep, closes-nothing}
+use Rattle.rooms.proofs.Promises.{short-takes-address}
+use Rattle.rooms.proofs.Codes.{one-due}
+use Rattle.numbers.proofs.Cases.{state-cases, start-cases}
+use Rattle.numbers.proofs.Numbers.{calls-numbered, tests-in-order, numbers-settled}
+use Rattle.unit.proofs.Accepted.{calls-power-on, store-kept, accepted-again, run-accepted, one-value-changes}
+use Rattle.unit.proofs.Foreign.{foreign-passes-by, event-breaks-pair}
+use Rattle.unit.proofs.Leaving.{frames-leave}
+use Rattle.unit.proofs.Worked.{worked-hold}
+use Rattle.unit.proofs.Numbers.{calls-reply, calls-refused, calls-accepted, calls-settled}
+use Rattle.unit.proofs.Bench.{sheet-holds as unit-sheet-holds}
+use Rattle.history.proofs.Demand.{unit-demand, unit-read-only, lock-by-grammar, in-order}
+use Rattle.history.proofs.Bench.{p11-writing, p12-no-writing}
+use Rattle.history.proofs.Wrong.{wrong-ones-fail}
+use Rattle.tracing.proofs.Bench.{bench-files, bench-traces}
+use Rattle.tracing.proofs.Starts.{files-numbered, one-byte-more, files-settled}
+use Rattle.tracing.proofs.Continued.{four-each, thirteen-ends, one-after-other}
+use Rattle.tracing.proofs.Checks.{one-check}
+use Rattle.tracing.proofs.Cutting.{cut-anywhere}
+use Rattle.tracing.proofs.Settled.{run-settled, who-settled}
+use Rattle.packing.proofs.Round.{state-back, bytes-back}
+use Rattle.packing.proofs.Cases.{cases as packing-cases}
+use Rattle.faces.proofs.Settled.{settled as faces-settled}
+use Rattle.faces.proofs.Words.{replies-back, looks-back, writings-back}
+use Rattle.faces.proofs.LowByte.{low-byte as faces-low-byte}
+use Rattle.faces.proofs.Numbers.{faces-numbered, faces-refused}
+use Rattle.faces.proofs.NoByte.{faces-not-cut}
+use Rattle.faces.proofs.Cases.{cases as faces-cases}
+use Rattle.claims.specs.Claims.{Frames, MapStoreImage, StateClock, CommandsObeyed, CompleteWriting}
+use Rattle.claims.specs.Claims.{RefusalNumbers, TraceProgram, BenchSheet, ErrorsSeen, PlaceForms}
+use Rattle.claims.specs.Claims.{Judging, CLibrary, Claims}
+
+frames : Frames
+frames = record {
+  what-reads-writes-back = writes-back;
+  what-is-written-reads-back = reads-back;
+  one-message = one-message;
+  written-frames-fit = writings-fit;
+  fourteen-reserved = reserved-14;
+  fifty-nine-reserved = reserved-59;
+  events-are-composed = composes;
+  schemes-carry = carries;
+  missing-field-falls-back = falls-back;
+  power-events-are-composed = composes-power;
+  lowest-group = lowest;
+}
+
+map-store-image : MapStoreImage
+map-store-image = record {
+  map-stands = order-stands;
+  map-boundaries = order-cases;
+  store-stands = check-stands;
+  store-boundaries = check-cases;
+  look-shows-the-value = look-shows;
+  look-finds-what-begins-there = look-stands;
+  refused-look-is-empty = look-empty;
+  look-boundaries = look-cases;
+}
+
+state-clock : StateClock
+state-clock = record {
+  start-and-power-on = calls-power-on;
+  store-is-kept = store-kept;
+  state-boundaries = state-cases;
+  address-boundaries = start-cases;
+  accepted-stays-accepted = accepted-again;
+  run-is-accepted = run-accepted;
+  pair-clocks = pair-clocks;
+  no-pair = no-pair;
+}
+
+commands-obeyed : CommandsObeyed
+commands-obeyed = record {
+  for-the-unit = for-the-unit;
+  special-for-all = special-for-all;
+  listed-bytes = code-stands;
+  event-is-foreign = event-foreign;
+  reserved-is-foreign = reserved-foreign;
+  short-takes-address = short-takes-address;
+  foreign-passes-by = foreign-passes-by;
+  eleven-keep = eleven-keep;
+  others-close-nothing = closes-nothing;
+  frames-leave = frames-leave;
+  one-value-changes = one-value-changes;
+  last-byte-puts-the-value = write-value;
+  later-bytes-from-the-latch = read-latched;
+  reset-fills-values = fill-value;
+  reset-locks = fill-locks;
+  worked-runs = worked-hold;
+}
+
+complete-writing : CompleteWriting
+complete-writing = record {
+  unit-demand = unit-demand;
+  unit-read-only = unit-read-only;
+  lock-by-grammar = lock-by-grammar;
+  history-in-order = in-order;
+  p11-has-a-writing = p11-writing;
+  p12-has-none = p12-no-writing;
+  wrong-ones-fail = wrong-ones-fail;
+}
+
+refusal-numbers : RefusalNumbers
+refusal-numbers = record {
+  exactly-if = exactly-if;
+  reader-numbers = reader-numbers;
+  writer-numbers = writer-numbers;
+  reader-and-writer-exactly-if = frames-exactly;
+  event-numbers = composer-numbers;
+  power-event-numbers = power-numbers;
+  composers-exactly-if = composing-exactly;
+  map-numbers = order-numbers;
+  check-numbers = check-numbers;
+  look-numbers = look-numbers;
+  calls-numbered = calls-numbered;
+  tests-in-order = tests-in-order;
+  calls-return-the-number = calls-reply;
+  refusals-change-nothing = calls-refused;
+  accepted-calls-act = calls-accepted;
+}
+
+trace-program : TraceProgram
+trace-program = record {
+  unit-adr = bench-files;
+  files-numbered = files-numbered;
+  one-byte-more = one-byte-more;
+  record-bytes = entries-cases;
+  four-bytes-each = four-each;
+  thirteen-ends = thirteen-ends;
+  one-check = one-check;
+  one-after-other = one-after-other;
+  cut-anywhere = cut-anywhere;
+  rest-is-kept = rest-kept;
+}
+
+bench-sheet : BenchSheet
+bench-sheet = record {
+  sheet = unit-sheet-holds;
+  frames-of-the-sheet = composing-sheet-holds;
+  traces-of-the-sheet = bench-traces;
+}
+
+errors-seen : ErrorsSeen
+errors-seen = record {
+  only-a-last-byte-stores = write-not-last;
+  event-breaks-pair = event-breaks-pair;
+}
+
+place-forms : PlaceForms
+place-forms = record {
+  word-gives-message = word-gives;
+  message-has-the-word = gives-word;
+  word-of-no-message = word-refused;
+  reading-low-byte = words-low-byte;
+  writing-low-byte = frames-low-byte;
+  one-due = one-due;
+  one-entry = one-entry;
+  broken-is-13 = broken-is-13;
+}
+
+judging : Judging
+judging = record {
+  reader-and-writer-settled = frames-settled;
+  words-settled = words-settled;
+  composers-settled = composing-settled;
+  map-settled = order-settled;
+  check-settled = check-settled;
+  look-at-settled = look-at-settled;
+  look-number-settled = look-number-settled;
+  look-settled = look-settled;
+  numbers-settled = numbers-settled;
+  calls-settled = calls-settled;
+  entry-settled = entry-settled;
+  rest-settled = rest-settled;
+  run-settled = run-settled;
+  who-settled = who-settled;
+  files-settled = files-settled;
+  faces-settled = faces-settled;
+  whole-value = whole-value;
+}
+
+c-library : CLibrary
+c-library = record {
+  state-comes-back = state-back;
+  bytes-come-back = bytes-back;
+  places-of-the-bytes = packing-cases;
+  replies-come-back = replies-back;
+  looks-come-back = looks-back;
+  writings-come-back = writings-back;
+  answers-low-byte = faces-low-byte;
+  faces-numbered = faces-numbered;
+  faces-not-cut = faces-not-cut;
+  faces-refused = faces-refused;
+  sheet-in-c = faces-cases;
+}
+
+pub claims : Claims
+claims = record {
+  frames = frames;
+  map-store-image = map-store-image;
+  state-clock = state-clock;
+  commands-obeyed = commands-obeyed;
+  complete-writing = complete-writing;
+  refusal-numbers = refusal-numbers;
+  trace-program = trace-program;
+  bench-sheet = bench-sheet;
+  errors-seen = errors-seen;
+  place-forms = place-forms;
+  judging = judging;
+  c-library = c-library;
+}

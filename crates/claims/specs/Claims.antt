@@ -1,0 +1,354 @@
+-- What the project stands for, on one page: one field for each statement, under the headings of paper 01 and in its
+-- order, the paper's words above the field. Proved in proofs/Claims.antt, which names the theorem of each field.
+-- A new statement: a line here under its heading, and a line there in the same place. tests/25-promises says which
+-- statement of the project has no field, and is not listed in docs/PROMISES.md as a law for the floor above.
+-- Assumes nothing.
+use Prim.Native.Nat.{ℕ}
+use mathlib.Core.List.{List}
+use Rattle.laws.specs.Numbers.{Test, ExactlyIf}
+use Rattle.frames.specs.Promises.{WritesBack, ReadsBack, OneMessage, WritingsFit, LowByte as FramesLowByte}
+use Rattle.frames.specs.Promises.{Settled as FramesSettled}
+use Rattle.frames.specs.Refusals.{Reserved14, Reserved59, ReaderNumbers, WriterNumbers, Exactly as FramesExactly}
+use Rattle.words.specs.Promises.{WordGives, GivesWord, WordRefused, LowByte as WordsLowByte, Settled as WordsSettled}
+use Rattle.composing.specs.Promises.{Composes, Carries, FallsBack, ComposesPower, Lowest, Settled as ComposingSettled}
+use Rattle.composing.specs.Refusals.{ComposerNumbers, PowerNumbers, Exactly as ComposingExactly}
+use Rattle.composing.specs.Bench.{SheetHolds as ComposingSheetHolds}
+use Rattle.records.specs.Promises.{OrderStands, OrderNumbers, OrderSettled}
+use Rattle.records.specs.Cases.{OrderCases}
+use Rattle.banks.specs.Promises.{CheckStands, CheckNumbers, CheckSettled}
+use Rattle.banks.specs.Cases.{CheckCases}
+use Rattle.looks.specs.Promises.{LookShows, LookStands, LookEmpty, LookNumbers, LookAtSettled, LookNumberSettled}
+use Rattle.looks.specs.Promises.{LookSettled}
+use Rattle.looks.specs.Cases.{LookCases}
+use Rattle.entries.specs.Cases.{Cases as EntriesCases}
+use Rattle.entries.specs.Promises.{RestKept, EntrySettled, RestSettled}
+use Rattle.entries.specs.Codes.{OneEntry, BrokenIs13}
+use Rattle.memory.specs.Promises.{WriteValue, ReadLatched, FillValue, FillLocks, WriteNotLast, WholeValue}
+use Rattle.hearing.specs.declared.rooms.Who.{Who}
+use Rattle.hearing.specs.declared.rooms.Heard.{Heard}
+use Rattle.hearing.specs.Promises.{PairClocks, NoPair, ForTheUnit, SpecialForAll, CodeStands, EventForeign}
+use Rattle.hearing.specs.Promises.{ReservedForeign, ElevenKeep, ClosesNothing}
+use Rattle.rooms.specs.Promises.{ShortTakesAddress}
+use Rattle.rooms.specs.Codes.{OneDue}
+use Rattle.numbers.specs.Cases.{StateCases, StartCases}
+use Rattle.numbers.specs.Promises.{CallsNumbered, TestsInOrder, NumbersSettled}
+use Rattle.unit.specs.Keeping.{CallsPowerOn, CallsKeepStore, CallsAcceptedAgain, RunAccepted, OneValueChanges}
+use Rattle.unit.specs.Leaving.{ForeignPassesBy, FramesLeave, EventBreaksPair}
+use Rattle.unit.specs.Worked.{WorkedHold}
+use Rattle.unit.specs.Promises.{CallsReply, CallsRefused, CallsAccepted, CallsSettled}
+use Rattle.unit.specs.Bench.{SheetHolds as UnitSheetHolds}
+use Rattle.history.specs.Machine.{unitMachine}
+use Rattle.history.specs.Demand.{Demand, ReadOnlyStay, LockByGrammar, InOrder}
+use Rattle.history.specs.Bench.{P11Writing, P12NoWriting}
+use Rattle.history.specs.Wrong.{WrongOnesFail}
+use Rattle.tracing.specs.Bench.{BenchFiles, BenchTraces}
+use Rattle.tracing.specs.Promises.{FilesNumbered, OneByteMore, FourEach, ThirteenEnds, OneCheck, OneAfterOther}
+use Rattle.tracing.specs.Promises.{CutAnywhere, RunSettled, WhoSettled, FilesSettled}
+use Rattle.packing.specs.Promises.{StateBack, BytesBack}
+use Rattle.packing.specs.Cases.{Cases as PackingCases}
+use Rattle.faces.specs.Promises.{Settled as FacesSettled, RepliesBack, LooksBack, WritingsBack}
+use Rattle.faces.specs.Promises.{LowByte as FacesLowByte, FacesNumbered, FacesNotCut, FacesRefused}
+use Rattle.faces.specs.Cases.{Cases as FacesCases}
+
+-- ---- Frames
+
+pub record Frames : Type 0 where
+  -- "every frame that reads writes back to itself" (the mission)
+  pub what-reads-writes-back : WritesBack
+  -- "what is written reads back the same" (the mission)
+  pub what-is-written-reads-back : ReadsBack
+  -- so no two messages have one frame, and no refusal is one
+  pub one-message : OneMessage
+  -- "A frame is a number below 16,777,216": what is written is one
+  pub written-frames-fit : WritingsFit
+  -- "The other 14 odd bytes are reserved"
+  pub fourteen-reserved : Reserved14
+  -- "the other 59 are reserved"
+  pub fifty-nine-reserved : Reserved59
+  -- "Composing an event": what is in range is a frame, and reads back as the event of its scheme
+  pub events-are-composed : Composes
+  -- "Scheme 0 type and number; 1 short address and type; 2 short address and number; 3 lowest device group and type; 4
+  -- primary group and type"
+  pub schemes-carry : Carries
+  -- "A scheme whose field is missing (255, or no group) falls back to 0"
+  pub missing-field-falls-back : FallsBack
+  -- "A power event is composed from a short address and 32 group bits"
+  pub power-events-are-composed : ComposesPower
+  -- "Lowest member group by trailing zeros of the 32 group bits, for scheme 3 and the power event"
+  pub lowest-group : Lowest
+
+-- ---- Map, store, reset image
+
+pub record MapStoreImage : Type 0 where
+  -- "The map is records of 8 bytes", to "Records rise strictly by (bank, first) and don't overlap": 7 to 9 pass
+  -- exactly what keeps this
+  pub map-stands : OrderStands
+  -- each boundary of it, in one table
+  pub map-boundaries : OrderCases
+  -- "Store and reset image are equally long", to "Bank 0 has only kinds 0, 1, 3": and so do 10 and 11
+  pub store-stands : CheckStands
+  -- each boundary of it, in one table
+  pub store-boundaries : CheckCases
+  -- "The look call hands the caller the stored bytes themselves"
+  pub look-shows-the-value : LookShows
+  -- "for a value that begins at a given bank and location"
+  pub look-finds-what-begins-there : LookStands
+  -- "On refusal it gives the empty part; a companion call gives the number"
+  pub refused-look-is-empty : LookEmpty
+  -- each boundary of a look, in one table
+  pub look-boundaries : LookCases
+
+-- ---- State and clock
+
+pub record StateClock : Type 0 where
+  -- "Start takes address and groups and acts as a power-on: DTRs 0 (house); nothing waiting, enabled, staged or
+  -- latched; lock bytes 0xFF; other RAM-RW values from the reset image. A later power-on does the same and keeps
+  -- address and groups"
+  pub start-and-power-on : CallsPowerOn
+  -- start and power-on change no other value, and a frame only writable ones
+  pub store-is-kept : CallsKeepStore
+  -- "Rules of a state": each boundary, in one table
+  pub state-boundaries : StateCases
+  -- "the address is 0..63 or 255": each boundary at a start, in one table
+  pub address-boundaries : StartCases
+  -- what an accepted call leaves keeps every rule
+  pub accepted-stays-accepted : CallsAcceptedAgain
+  -- so after an accepted start no power-on and no frame is refused
+  pub run-is-accepted : RunAccepted
+  -- "The clock counts milliseconds in 32 bits and runs over", "at most 100 (house)"
+  pub pair-clocks : (frame : ℕ) → PairClocks frame
+  -- "Two frames are a pair if equal, accepted in direct succession": else there is none
+  pub no-pair : (heard : Heard) → NoPair heard
+
+-- ---- Commands obeyed
+
+pub record CommandsObeyed : Type 0 where
+  -- "A command is for the unit if its short address or group matches, if broadcast, if broadcast unaddressed while its
+  -- address is 255"
+  pub for-the-unit : (who : Who) → ForTheUnit who
+  -- "or if special"
+  pub special-for-all : SpecialForAll
+  -- "With instance byte 0xFE: ..", "Special: ..": the bytes of each listed command, and no other is obeyed
+  pub listed-bytes : CodeStands
+  -- an event is for no unit
+  pub event-is-foreign : EventForeign
+  -- nor is a reserved frame: "such a frame only clears the waiting one"
+  pub reserved-is-foreign : ReservedForeign
+  -- "SET SHORT ADDRESS takes DTR0 if below 0x40 or 255, else does nothing"
+  pub short-takes-address : ShortTakesAddress
+  -- "Otherwise any frame clears the waiting one": what is for no unit does no more
+  pub foreign-passes-by : ForeignPassesBy
+  -- "Write-enable keeps through the three writes, the five DTR commands and QUERY CONTENT DTR0..2"
+  pub eleven-keep : ElevenKeep
+  -- "Any other listed command for the unit closes it": a frame that is none closes nothing
+  pub others-close-nothing : ClosesNothing
+  -- what each command leaves alone; "Writes and resets don't touch it" (the latch)
+  pub frames-leave : FramesLeave
+  -- in a frame step that is no reset at most one value changes
+  pub one-value-changes : OneValueChanges
+  -- "A last byte puts the whole value in the store"
+  pub last-byte-puts-the-value : WriteValue
+  -- "its later bytes are answered from the latch"
+  pub later-bytes-from-the-latch : ReadLatched
+  -- "Its other writable values take the reset image"
+  pub reset-fills-values : FillValue
+  -- "its lock byte 0xFF"
+  pub reset-locks : FillLocks
+  -- runs of the commands on the bench map, in one table
+  pub worked-runs : WorkedHold
+
+-- ---- Grammar of a complete writing: demand 3
+
+pub record CompleteWriting : Type 0 where
+  -- whatever is sent, in whatever order, and wherever it is cut off: each writable value is whole at every point
+  pub unit-demand : Demand unitMachine
+  -- beside it: a value that is not writable is what it was before the start
+  pub unit-read-only : ReadOnlyStay unitMachine
+  -- "the lock byte by this same grammar"
+  pub lock-by-grammar : LockByGrammar
+  -- "worked out from start, map and list": a history is the list of a run, the newest first
+  pub history-in-order : InOrder
+  -- the grammar is not empty: P11 has a complete writing
+  pub p11-has-a-writing : P11Writing
+  -- and P12 has none
+  pub p12-has-none : P12NoWriting
+  -- "The unit that stores only the first value, then just answers, falls to demand 3", and so do two others
+  pub wrong-ones-fail : WrongOnesFail
+
+-- ---- Refusal numbers
+
+pub record RefusalNumbers : Type 0 where
+  -- "Given exactly if": the first test of a list that fails
+  pub exactly-if : (tests : List Test) → ExactlyIf tests
+  -- "The reader tests 1, 2, 3, 4, 5"
+  pub reader-numbers : ReaderNumbers
+  -- "field out of range: writer"
+  pub writer-numbers : WriterNumbers
+  -- each exactly if
+  pub reader-and-writer-exactly-if : FramesExactly
+  -- "field out of range: .. composer": of an event
+  pub event-numbers : ComposerNumbers
+  -- and of a power event
+  pub power-event-numbers : PowerNumbers
+  -- each exactly if
+  pub composers-exactly-if : ComposingExactly
+  -- 7 to 9, of a map by itself, exactly if
+  pub map-numbers : OrderNumbers
+  -- 7 to 11, exactly if
+  pub check-numbers : CheckNumbers
+  -- "The look calls test 7 to 11, then 14", exactly if
+  pub look-numbers : LookNumbers
+  -- "A frame step or a later power-on tests 7 to 12, each over everything, a frame then 1", "Start tests 7 to 11,
+  -- then 6": exactly if
+  pub calls-numbered : CallsNumbered
+  -- in that order
+  pub tests-in-order : TestsInOrder
+  -- "A refusal returns the number"
+  pub calls-return-the-number : CallsReply
+  -- "state and store stay. A refused start's state is all zeros"
+  pub refusals-change-nothing : CallsRefused
+  -- and with number 0 a call does what its definition says
+  pub accepted-calls-act : CallsAccepted
+
+-- ---- The trace program
+
+pub record TraceProgram : Type 0 where
+  -- "address, then 32 group bits, high byte first"
+  pub unit-adr : BenchFiles
+  -- "a wrong length of unit.adr is 6": the number of the files, exactly if
+  pub files-numbered : FilesNumbered
+  -- a file longer than its limit is seen to be longer
+  pub one-byte-more : OneByteMore
+  -- "records of 8 bytes: clock (4, high first), kind 0 frame or 1 power-on, frame (3)"
+  pub record-bytes : EntriesCases
+  -- "Per record it writes 4 bytes"
+  pub four-bytes-each : FourEach
+  -- "Refusal 13, its 4 bytes written, ends the input; the store still follows"
+  pub thirteen-ends : ThirteenEnds
+  -- map, store, image and state are tested once for a whole run
+  pub one-check : OneCheck
+  -- a run behind a run is one run
+  pub one-after-other : OneAfterOther
+  -- however the input is cut, the trace is the same
+  pub cut-anywhere : CutAnywhere
+  -- what is read of an unfinished record waits for its other bytes
+  pub rest-is-kept : RestKept
+
+-- ---- Bench sheet
+
+pub record BenchSheet : Type 0 where
+  -- P1 to P12 and the two lines after them: "a single table and statement"
+  pub sheet : UnitSheetHolds
+  -- its frames by themselves, P1 to P10
+  pub frames-of-the-sheet : ComposingSheetHolds
+  -- P11 and P12 as the trace program reads and writes them
+  pub traces-of-the-sheet : BenchTraces
+
+-- ---- Errors fitters have seen
+
+pub record ErrorsSeen : Type 0 where
+  -- "Storing each byte as it comes": unless it is a last byte that is taken, the store stays
+  pub only-a-last-byte-stores : WriteNotLast
+  -- "Letting an event between two halves pass as a pair"; the third error, a late lock, is one of `worked-runs`
+  pub event-breaks-pair : EventBreaksPair
+
+-- ---- What each place should look like
+
+pub record PlaceForms : Type 0 where
+  -- "Where an answer is an enum, a definition states this paper's number and values for each of its cases": a reading's
+  -- word gives the reading
+  pub word-gives-message : WordGives
+  -- a word that gives a message is that message's
+  pub message-has-the-word : GivesWord
+  -- and 6 is given exactly if no message has the word
+  pub word-of-no-message : WordRefused
+  -- the low byte of a reading's word is its number
+  pub reading-low-byte : WordsLowByte
+  -- and that of a writing's
+  pub writing-low-byte : FramesLowByte
+  -- number and values tell apart what is due
+  pub one-due : OneDue
+  -- and the records of a trace
+  pub one-entry : OneEntry
+  -- where a broken one's number is 13
+  pub broken-is-13 : BrokenIs13
+
+-- ---- How the promises are judged: "results meeting the same promise are equal"
+
+pub record Judging : Type 0 where
+  -- of the reader and the writer
+  pub reader-and-writer-settled : FramesSettled
+  -- of a reading's word
+  pub words-settled : WordsSettled
+  -- of the composers
+  pub composers-settled : ComposingSettled
+  -- of the tests of a map by itself
+  pub map-settled : OrderSettled
+  -- of the tests of map, store and image
+  pub check-settled : CheckSettled
+  -- of a look's place
+  pub look-at-settled : LookAtSettled
+  -- of its number
+  pub look-number-settled : LookNumberSettled
+  -- of its part: the bytes ("or list the exception")
+  pub look-settled : LookSettled
+  -- of the numbers of start, power-on and frame step
+  pub numbers-settled : NumbersSettled
+  -- of start, power-on and frame step: answer, state and store
+  pub calls-settled : CallsSettled
+  -- of a trace record
+  pub entry-settled : EntrySettled
+  -- of what stays of a slice
+  pub rest-settled : RestSettled
+  -- of a run: count, state, store and output
+  pub run-settled : RunSettled
+  -- of unit.adr
+  pub who-settled : WhoSettled
+  -- of the number of the files
+  pub files-settled : FilesSettled
+  -- of the ten calls of the C library
+  pub faces-settled : FacesSettled
+  -- "Facts over widths 1 to 8 are shown once, over the width": n writes leave the whole value
+  pub whole-value : WholeValue
+
+-- ---- The C library (docs/UNIT.md; not in paper 01)
+
+pub record CLibrary : Type 0 where
+  -- a state comes back from its 96 bytes
+  pub state-comes-back : StateBack
+  -- and 96 bytes from their state
+  pub bytes-come-back : BytesBack
+  -- their places, in one table
+  pub places-of-the-bytes : PackingCases
+  -- each part of a reply stands in its bits
+  pub replies-come-back : RepliesBack
+  -- and of a look's answer
+  pub looks-come-back : LooksBack
+  -- and of a written frame's
+  pub writings-come-back : WritingsBack
+  -- the low byte of every answer but a run's is the number
+  pub answers-low-byte : FacesLowByte
+  -- numbers exactly if
+  pub faces-numbered : FacesNumbered
+  -- a number that does not fit a byte is refused and not cut
+  pub faces-not-cut : FacesNotCut
+  -- a refusal changes nothing
+  pub faces-refused : FacesRefused
+  -- the bench sheet as C sees it, in one table
+  pub sheet-in-c : FacesCases
+
+-- ---- The page
+
+pub record Claims : Type 0 where
+  pub frames : Frames
+  pub map-store-image : MapStoreImage
+  pub state-clock : StateClock
+  pub commands-obeyed : CommandsObeyed
+  pub complete-writing : CompleteWriting
+  pub refusal-numbers : RefusalNumbers
+  pub trace-program : TraceProgram
+  pub bench-sheet : BenchSheet
+  pub errors-seen : ErrorsSeen
+  pub place-forms : PlaceForms
+  pub judging : Judging
+  pub c-library : CLibrary
