@@ -6,7 +6,10 @@ pub mod Growing
 pub mod Past
 pub mod Enabled
 pub mod Placed
+pub mod Selecting
 pub mod Valued
+pub mod Short
+pub mod Follow
 pub mod Demand
 pub mod Computed
 pub mod Wrong
