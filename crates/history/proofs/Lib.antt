@@ -11,6 +11,7 @@ pub mod Valued
 pub mod Short
 pub mod Follow
 pub mod Demand
+pub mod Use
 pub mod Computed
 pub mod Wrong
 pub mod Bench

@@ -36,14 +36,15 @@ module _ (rs : List Record) (who : Who) (image : List ℕ) (v : Record) where
   unfolding deedAt
   last-write wide h j l cs y =
       let L : length (past h (suc j)) ≡ suc j = length-past h (suc j) l in
-      let e : y .place (v .width - 1) ≡ j = omega (arith, y .ending (v .width - 1) (omega (arith, wide)), L) in
+      let e : y .place (v .width - 1) ≡ j =
+      omega (arith, y .ending (v .width - 1) (omega (arith, wide)), L) in
       let q : latest rs who (past (past h (suc j)) (suc j)) ≡ puts (v .bank) end (getD cs (v .width - 1) 0) =
       rw e at (y .writes (v .width - 1) (omega (arith, wide))) in
       rw (past-past h (suc j) (suc j) (omega arith) l) at q
 
   -- a writing of it writes there once: at its end
-  once : (wide : 1 ≤ v .width) (h : List Input) (bs : List ℕ) (w : WritingAt rs who v bs h) (j byte : ℕ) → w .place 0 ≤ j
-      → j < length h → deedAt rs who h j ≡ puts (v .bank) end byte → suc j ≡ length h
+  once : (wide : 1 ≤ v .width) (h : List Input) (bs : List ℕ) (w : WritingAt rs who v bs h) (j byte : ℕ)
+      → w .place 0 ≤ j → j < length h → deedAt rs who h j ≡ puts (v .bank) end byte → suc j ≡ length h
   once wide h bs w j byte lo hi e = go (w .alone j (v .bank) end byte lo hi e)
     where
       go : (k : ℕ) × (k < v .width) × (j ≡ w .place k) → suc j ≡ length h

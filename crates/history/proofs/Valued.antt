@@ -112,8 +112,9 @@ module _ (rs : List Record) (who : Who) (image left : List ℕ) (v : Record) (F 
     unfolding ripe ripeBy value valueBy
     change-reset dtr0 e true b =
         let p = both (selects dtr0 (v .bank)) (eqb locked 0x55) b in
+        let S = of-selects dtr0 (v .bank) (p .0) in
         let R : ResetAt rs who (v .bank) x h = record
-        { dtr0 = dtr0; pair = e; selected = of-selects dtr0 (v .bank) (p .0); unlocked = eqb-true locked 0x55 (p .1) } in
+        { dtr0 = dtr0; pair = e; selected = S; unlocked = eqb-true locked 0x55 (p .1) } in
         let q : val (x ∷ h) ≡ fresh image v = rw (e, b) in
         puts-it (rw q (by-reset R))
     change-reset dtr0 e false b =
