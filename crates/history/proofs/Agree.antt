@@ -46,7 +46,7 @@ use Rattle.history.specs.Pairs.{endsPair}
 use Rattle.history.specs.Deeds.{Context, Deed, opens, resets, puts, keeps, breaks, powers, executes, writeDeed}
 use Rattle.history.specs.Deeds.{onceDeed, pairDeed, deedBy, deedOf, keeping, enabledBy}
 use Rattle.history.specs.Context.{raisedFrom, onceRegisters, registersOf, pairWho, whoOf, meant, deedIn}
-use Rattle.history.specs.Context.{heardIn, poweredIn, context, deedAfter}
+use Rattle.history.specs.Context.{heardIn, poweredIn, startedIn, context, deedAfter}
 
 -- the unit's rooms, as a context
 abbrev pub contextIn : State → Context
@@ -199,6 +199,12 @@ module _ (y x : Heard) (p : Bool) (before now : Who) (c : Twice) (is : meaningOf
       go true = rw (none-completes x, and-no again)
       go false = rw (one-completes y x, and-yes again)
 
+-- the list's pair rule is that of the frame that waits
+ends-by : (y x : Heard) (h : List Input)
+    → (inTime (y .frame) (y .clock) (x .frame) (x .clock) && not (endsPair h y)) ≡ endsPair (hears y ∷ h) x
+unfolding endsPair inTime
+ends-by y x h = refl
+
 -- ---- over a history of accepted calls
 
 abbrev roomsIn : Left State → Rooms
@@ -273,6 +279,7 @@ module _ (start : Start) where
       let k : at (hears y ∷ h) .state .who ≡ whoOf (contextIn s) (endsPair h y) m =
       ap (λ (r : Rooms). r .who) F ∙ ap (λ (u : View). u .context .who) M in
       rw w (repeats y x (endsPair h y) (s .who) (at (hears y ∷ h) .state .who) c e m refl (contextIn s) (sym k) refl)
+      ∙ ends-by y x h
 
   -- a frame's move, by the unit's own rooms
   frame-moved : (x : Heard) (h : List Input) → Runs (hears x ∷ h)
@@ -288,10 +295,10 @@ module _ (start : Start) where
 
   -- the unit's context is the grammar's
   pub agree : (h : List Input) → Runs h → contextIn (at h .state) ≡ context records (start .who) h
-  unfolding context poweredIn
+  unfolding context poweredIn startedIn
   agree [] A = ap contextOf (start-rooms A)
   agree (power-on ∷ h) A =
-      ap contextOf (power-rooms-at h A) ∙ ap (λ (k : Context). poweredIn (k .who)) (agree h (A .1))
+      ap contextOf (power-rooms-at h A) ∙ ap poweredIn (agree h (A .1))
   agree (hears x ∷ h) A =
       ap (λ (u : View). u .context) (frame-moved x h A)
       ∙ ap (λ (k : Context). heardIn records k (endsPair h x) x) (agree h (A .1))

@@ -19,14 +19,14 @@ use Rattle.records.specs.declared.record.Record.{Record}
 use Rattle.records.specs.Facts.{Fielded}
 use Rattle.memory.proofs.ForHistoryStaged.{taking, unfinished}
 use Rattle.hearing.specs.Meaning.{deviceCommand, firstSpecial, specialCommand, meaningOf}
-use Rattle.hearing.specs.Pairs.{passed, inTime}
+use Rattle.hearing.specs.Pairs.{passed}
 use Rattle.hearing.specs.declared.rooms.Who.{Who}
 use Rattle.rooms.specs.Due.{withDtr}
 use Rattle.unit.specs.Bench.{benchMap, benchWho}
 use Rattle.unit.specs.Run.{Input}
 use Rattle.history.specs.Bench.{p11Frames, p12Frames, benchValue, P11Writing, P12NoWriting}
 use Rattle.history.specs.Context.{raisedFrom, onceRegisters, registersOf, pairWho, whoOf, heardIn, poweredIn}
-use Rattle.history.specs.Context.{meant, deedIn, context, deedAfter}
+use Rattle.history.specs.Context.{startedIn, meant, deedIn, context, deedAfter}
 use Rattle.history.specs.Lock.{lockBy, lock}
 use Rattle.history.specs.Deeds.{executes, writeDeed, onceDeed, pairDeed, deedBy, deedOf, keeping, enabledBy}
 use Rattle.history.specs.Pairs.{endsPair}
@@ -80,10 +80,10 @@ record Read : Type 0 where
   of-p12 : never (recordsOf benchMap) benchWho benchValue (reverse p12Frames) ≡ true
 
 reads : Read
-unfolding never ripe ripeBy okFor taking unfinished lock lockBy deedAfter context meant deedIn poweredIn heardIn
-    whoOf pairWho registersOf onceRegisters raisedFrom enabledBy keeping deedOf deedBy pairDeed onceDeed writeDeed
-    executes endsPair inTime passed withDtr meaningOf specialCommand firstSpecial deviceCommand targetAt read.addressOf
-    read.targetOf read.commandOf read.readOf kindOf recordsOf recordAt bits
+unfolding never ripe ripeBy okFor taking unfinished lock lockBy deedAfter context meant deedIn poweredIn startedIn
+    heardIn whoOf pairWho registersOf onceRegisters raisedFrom enabledBy keeping deedOf deedBy pairDeed onceDeed
+    writeDeed executes endsPair passed withDtr meaningOf specialCommand firstSpecial deviceCommand targetAt
+    read.addressOf read.targetOf read.commandOf read.readOf kindOf recordsOf recordAt bits
 reads = record { of-p11 = refl; of-p12 = refl }
 
 pub p11-writing : P11Writing

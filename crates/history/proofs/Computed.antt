@@ -26,7 +26,7 @@ use Rattle.rooms.specs.Reply.{quiet, answering, refusing}
 use Rattle.numbers.specs.Numbers.{stepNumber, startNumber}
 use Rattle.unit.specs.Run.{Input}
 use Rattle.unit.specs.Step.{hearing, raised, written, done, frameOf, powerOf, stepOf, startOf}
-use Rattle.history.specs.Bench.{bench, p11Frames, p12Frames, benchValue, p11Twice}
+use Rattle.history.specs.Bench.{bench, p11Frames, p12Frames, benchValue, p11Twice, p11Anew}
 use Rattle.history.specs.Demand.{bytesOf}
 use Rattle.history.specs.Wrong.{eachByte, firstOnly, neverStores}
 use Rattle.history.specs.Machine.{Machine, Accepted, unitMachine}
@@ -43,6 +43,8 @@ pub record Runs : Type 0 where
   pub never-stores-p11 : Gives neverStores p11Frames (0x00 ∷ 0x00 ∷ 0x00 ∷ 0x64 ∷ [])
   pub ours-twice : Gives unitMachine p11Twice (0x00 ∷ 0x00 ∷ 0x02 ∷ 0x2C ∷ [])
   pub first-only-twice : Gives firstOnly p11Twice (0x00 ∷ 0x00 ∷ 0x01 ∷ 0x2C ∷ [])
+  pub first-only-anew : bytesOf firstOnly bench benchValue (reverse p11Anew) ≡ 0x00 ∷ 0x00 ∷ 0x01 ∷ 0x2C ∷ []
+  pub ours-anew : bytesOf unitMachine bench benchValue (reverse p11Anew) ≡ 0x00 ∷ 0x00 ∷ 0x01 ∷ 0x2C ∷ []
 
 pub runs : Runs
 unfolding unitMachine eachByte firstOnly neverStores stepOf startOf stepNumber startNumber frameOf powerOf done
@@ -99,4 +101,6 @@ runs = record {
     ),
     refl,
   );
+  first-only-anew = refl;
+  ours-anew = refl;
 }

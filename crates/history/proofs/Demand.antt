@@ -1,11 +1,9 @@
 -- Demand 3, proved of our unit.
 -- Assumes nothing.
-use mathlib.Core.Path.{_≡_, refl, sym, ap, _∙_}
-use mathlib.Core.Logic.{_⊎_, inl, inr}
+use mathlib.Core.Path.{_≡_, refl, ap, _∙_}
 use mathlib.Core.Bool.{true}
 use mathlib.Core.List.{List, [], _∷_, reverseAux}
-use Prim.Native.Nat.{ℕ, suc, _≤_, _<_}
-use native.Mathlib.Omega.{arith}
+use Prim.Native.Nat.{ℕ}
 use lib.ListN.{length}
 use borrow.Author.Tests.{eq-eqb}
 use Rattle.records.specs.Map.{writable}
@@ -18,28 +16,17 @@ use Rattle.banks.proofs.ForHistory.{lock-of}
 use Rattle.memory.proofs.ForHistoryFilled.{fresh-lock, power-value}
 use Rattle.unit.specs.Run.{Input, power-on, hears, inputOf, runFrom, runOf}
 use Rattle.history.specs.Lock.{lock}
-use Rattle.history.specs.Writing.{past}
 use Rattle.history.specs.Machine.{Start, unitMachine}
 use Rattle.history.specs.Demand.{Whole, Demand, ReadOnlyStay, LockByGrammar, InOrder}
 use Rattle.history.proofs.Agree.{records, Runs, at, start-store, start-stands}
 use Rattle.history.proofs.Effects.{none-of-lock, lock-step}
+use Rattle.history.proofs.Follow.{others-follow}
 use Rattle.history.proofs.Growing.{progress-length}
 use Rattle.history.proofs.Invariant.{fields, invariant, rest}
-use Rattle.history.proofs.Past.{past-all, past-old, last-or}
 use Rattle.history.proofs.Progress.{okFor, progress, value}
-use Rattle.history.proofs.Valued.{at-value, value-at, writing-value, unput, unput-since}
+use Rattle.history.proofs.Valued.{at-value, value-at}
 
 module _ (start : Start) where
-  -- an earlier point of an accepted history
-  past-runs : (h : List Input) → Runs start h → (i : ℕ) → i ≤ length h → Runs start (past h i)
-  past-runs [] A i l = let z : i ≡ 0 = omega arith in rw (z, past-all []) A
-  past-runs (x ∷ h) A i l = go (past-runs h (A .1) i) (last-or i (suc (length h)) (omega arith))
-    where
-      go : (i ≤ length h → Runs start (past h i)) → (i ≡ suc (length h)) ⊎ (i < suc (length h))
-          → Runs start (past (x ∷ h) i)
-      go ih (inl z) = rw (z, past-all (x ∷ h)) A
-      go ih (inr z) = let k : i ≤ length h = omega arith in rw (past-old x h i k) (ih k)
-
   module _ (v : Record) (m : Member v (start .map)) (wr : writable v ≡ true) where
     left : List ℕ
     left = at start [] .store
@@ -54,15 +41,9 @@ module _ (start : Start) where
     unfolding left
     whole h A =
         let F : Fielded v = fields start h A v m in
-        record {
-          value = rw (holds h A) (value-at (records start) (start .who) (start .image) left v F h);
-          one = λ bs r. holds h A ∙ at-value (records start) (start .who) (start .image) left v F h bs r;
-          complete = λ bs w. holds h A ∙ writing-value (records start) (start .who) (start .image) left v F h bs w;
-          cut = λ x B no′. holds (x ∷ h) B ∙ unput (records start) (start .who) (start .image) left v F x h no′
-              ∙ sym (holds h A);
-          unchanged = λ i l no′. holds h A ∙ unput-since (records start) (start .who) (start .image) left v F h i l no′
-              ∙ sym (holds (past h i) (past-runs h A i l));
-        }
+        others-follow unitMachine start v (F .some-width)
+        (λ g B. rw (holds g B) (value-at (records start) (start .who) (start .image) left v F g))
+        (λ g B bs r. holds g B ∙ at-value (records start) (start .who) (start .image) left v F g bs r) h A
 
 -- our unit meets the demand
 pub unit-demand : Demand unitMachine

@@ -27,7 +27,7 @@ use Rattle.unit.specs.Run.{Input, power-on, hears}
 use Rattle.history.specs.Pairs.{endsPair}
 use Rattle.history.specs.Deeds.{Context, Deed, opens, resets, puts, keeps, breaks, powers, executes, writeDeed}
 use Rattle.history.specs.Deeds.{onceDeed, pairDeed, deedBy, deedOf, keeping, enabledBy}
-use Rattle.history.specs.Context.{meant, deedIn, heardIn, poweredIn, context, deedAfter}
+use Rattle.history.specs.Context.{meant, deedIn, heardIn, poweredIn, startedIn, context, deedAfter}
 use Rattle.history.specs.Writing.{deedAt}
 use Rattle.history.proofs.Past.{at-old, at-new, last-or}
 
@@ -131,7 +131,7 @@ module _ (rs : List Record) (who : Who) where
   since-by x h ih powers q e = clash false e refl
 
   since : (h : List Input) → context rs who h .enabled ≡ true → Since h
-  unfolding context poweredIn heardIn deedAfter
+  unfolding context poweredIn startedIn heardIn deedAfter
   since [] e = clash false e refl
   since (power-on ∷ h) e = clash false e refl
   since (hears x ∷ h) e = since-by (hears x) h (since h) (deedAfter rs who h (hears x)) refl e

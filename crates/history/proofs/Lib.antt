@@ -6,8 +6,12 @@ pub mod Growing
 pub mod Past
 pub mod Enabled
 pub mod Placed
+pub mod Selecting
 pub mod Valued
+pub mod Short
+pub mod Follow
 pub mod Demand
+pub mod Use
 pub mod Computed
 pub mod Wrong
 pub mod Bench

@@ -2,7 +2,7 @@
 -- Assumes nothing.
 use mathlib.Core.Path.{_≡_, ap}
 use mathlib.Core.Logic.{_⊎_, inl, inr}
-use mathlib.Core.List.{List, _∷_}
+use mathlib.Core.List.{List, [], _∷_}
 use Prim.Native.Nat.{ℕ, suc, _-_, _≤_, _<_}
 use native.Mathlib.Omega.{arith}
 use native.Mathlib.Nat.{eq-or-lt-of-le}
@@ -37,3 +37,25 @@ last-or j n h = go (eq-or-lt-of-le h)
     go : (suc j ≡ suc n) ⊎ (suc j < suc n) → (j ≡ n) ⊎ (j < n)
     go (inl e) = inl (omega arith)
     go (inr e) = inr (omega arith)
+
+-- how long an earlier point's history is, and an earlier point of it
+pub length-past : (h : List Input) (i : ℕ) → i ≤ length h → length (past h i) ≡ i
+length-past [] i l = let z : i ≡ 0 = omega arith in rw (z, past-all [])
+length-past (x ∷ h) i l = go (length-past h i) (last-or i (suc (length h)) (omega arith))
+  where
+    go : (i ≤ length h → length (past h i) ≡ i) → (i ≡ suc (length h)) ⊎ (i < suc (length h))
+        → length (past (x ∷ h) i) ≡ i
+    go ih (inl z) = rw (z, past-all (x ∷ h))
+    go ih (inr z) = let k : i ≤ length h = omega arith in rw (past-old x h i k) (ih k)
+
+pub past-past : (h : List Input) (j i : ℕ) → j ≤ i → i ≤ length h → past (past h i) j ≡ past h j
+past-past [] j i l k = let z : i ≡ 0 = omega arith in rw (z, past-all [])
+past-past (x ∷ h) j i l k = go (past-past h j i l) (last-or i (suc (length h)) (omega arith))
+  where
+    go : (i ≤ length h → past (past h i) j ≡ past h j) → (i ≡ suc (length h)) ⊎ (i < suc (length h))
+        → past (past (x ∷ h) i) j ≡ past (x ∷ h) j
+    go ih (inl z) = rw (z, past-all (x ∷ h))
+    go ih (inr z) =
+        let a : i ≤ length h = omega arith in
+        let b : j ≤ length h = omega arith in
+        rw (past-old x h i a, past-old x h j b) (ih a)

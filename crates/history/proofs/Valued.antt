@@ -23,6 +23,7 @@ use Rattle.history.specs.Lock.{lock}
 use Rattle.history.specs.Writing.{past, WritingAt, ResetAt}
 use Rattle.history.specs.Value.{Put, by-writing, by-reset, by-power-on, PutsNone, ValueAt, as-left, last-put}
 use Rattle.history.proofs.Enabled.{frame-no-power}
+use Rattle.history.proofs.Selecting.{selects-of, of-selects}
 use Rattle.history.proofs.Growing.{writing-ripe, ripe-writing, progress-length}
 use Rattle.history.proofs.Past.{past-all, past-old, last-or}
 use Rattle.history.proofs.Placed.{placed, unplaced}
@@ -68,7 +69,7 @@ module _ (rs : List Record) (who : Who) (image left : List ℕ) (v : Record) (F 
   put-value (by-writing {h = h} {bytes = bs} w) = value-written h bs (written w .0) (written w .1)
   put-value (by-reset {x = x} {h = h} r) = rw (
     r .pair,
-    r .selected,
+    selects-of (r .dtr0) (v .bank) (r .selected),
     eq-eqb (lock rs who h (v .bank)) 0x55 (r .unlocked),
   )
   put-value (by-power-on e) = rw (eq-eqb (v .kind) 2 e)
@@ -82,7 +83,8 @@ module _ (rs : List Record) (who : Who) (image left : List ℕ) (v : Record) (F 
   unfolding deedAfter
   none-put x h short no-reset no-power bs (by-writing w) =
       let e : length (ripe rs who v (x ∷ h)) ≡ length bs = ap length (written w .0) in omega (arith, written w .1)
-  none-put x h short no-reset no-power bs (by-reset r) = no-reset (r .dtr0) (r .pair) (r .selected) (r .unlocked)
+  none-put x h short no-reset no-power bs (by-reset r) =
+      no-reset (r .dtr0) (r .pair) (selects-of (r .dtr0) (v .bank) (r .selected)) (r .unlocked)
   none-put x h short no-reset no-power bs (by-power-on e) = no-power refl e
 
   -- one more input puts the value anew, or leaves it
@@ -110,8 +112,9 @@ module _ (rs : List Record) (who : Who) (image left : List ℕ) (v : Record) (F 
     unfolding ripe ripeBy value valueBy
     change-reset dtr0 e true b =
         let p = both (selects dtr0 (v .bank)) (eqb locked 0x55) b in
+        let S = of-selects dtr0 (v .bank) (p .0) in
         let R : ResetAt rs who (v .bank) x h = record
-        { dtr0 = dtr0; pair = e; selected = p .0; unlocked = eqb-true locked 0x55 (p .1) } in
+        { dtr0 = dtr0; pair = e; selected = S; unlocked = eqb-true locked 0x55 (p .1) } in
         let q : val (x ∷ h) ≡ fresh image v = rw (e, b) in
         puts-it (rw q (by-reset R))
     change-reset dtr0 e false b =
@@ -167,7 +170,7 @@ module _ (rs : List Record) (who : Who) (image left : List ℕ) (v : Record) (F 
 
   -- ---- one value
 
-  pub unput : (x : Input) (h : List Input) → ((bs : List ℕ) → ¬ Put rs who image v (x ∷ h) bs) → val (x ∷ h) ≡ val h
+  unput : (x : Input) (h : List Input) → ((bs : List ℕ) → ¬ Put rs who image v (x ∷ h) bs) → val (x ∷ h) ≡ val h
   unput x h no′ = go (change x h)
     where
       go : Change x h → val (x ∷ h) ≡ val h
@@ -225,22 +228,3 @@ module _ (rs : List Record) (who : Who) (image left : List ℕ) (v : Record) (F 
       go : ValueAt rs who image left v h (val h) → Change x h → ValueAt rs who image left v (x ∷ h) (val (x ∷ h))
       go ih (puts-it p) = put-now x h (val (x ∷ h)) p
       go ih (leaves-it n e) = rw e (more x h (val h) n ih)
-
-  -- a complete writing is the value, now
-  pub writing-value : (h : List Input) (bs : List ℕ) → WritingAt rs who v bs h → val h ≡ bs
-  writing-value h bs w = put-value (by-writing w)
-
-  -- from input number i on nothing was put
-  pub unput-since : (h : List Input) (i : ℕ) → i ≤ length h
-      → ((j : ℕ) → i ≤ j → j < length h → PutsNone rs who image v h j)
-      → val h ≡ val (past h i)
-  unput-since [] i l no′ = let z : i ≡ 0 = omega arith in rw z (ap (λ (y : List Input). val y) (sym (past-all [])))
-  unput-since (x ∷ h) i l no′ = go (λ y. unput-since h i y) (last-or i (suc (length h)) (omega arith))
-    where
-      go : (i ≤ length h → ((j : ℕ) → i ≤ j → j < length h → PutsNone rs who image v h j) → val h ≡ val (past h i))
-          → (i ≡ suc (length h)) ⊎ (i < suc (length h)) → val (x ∷ h) ≡ val (past (x ∷ h) i)
-      go ih (inl z) = rw (z, past-all (x ∷ h))
-      go ih (inr z) =
-          let k : i ≤ length h = omega arith in
-          rw (past-old x h i k) (unput x h (none-last x h (no′ (length h) k (omega arith)))
-          ∙ ih k (λ j a b cs p. no′ j a (omega arith) cs (rw (past-old x h (suc j) b) p)))

@@ -39,6 +39,7 @@ wrong-ones-fail = record {
       let e : _≡_ {A = List ℕ} (0x00 ∷ 0x00 ∷ 0x02 ∷ 0x2C ∷ []) (0x00 ∷ 0x00 ∷ 0x01 ∷ 0x2C ∷ []) =
       same-bytes firstOnly p11Twice _ _ refl (runs .ours-twice) (runs .first-only-twice) d in
       let z : _≡_ {A = ℕ} 2 1 = cc in omega arith;
+  first-stored = runs .first-only-anew ∙ sym (runs .ours-anew);
   never-stores = λ d.
       let e : _≡_ {A = List ℕ} (0x00 ∷ 0x00 ∷ 0x01 ∷ 0x2C ∷ []) (0x00 ∷ 0x00 ∷ 0x00 ∷ 0x64 ∷ []) =
       same-bytes neverStores p11Frames _ _ refl (runs .ours-p11) (runs .never-stores-p11) d in

@@ -37,3 +37,9 @@ P12NoWriting = (i : ℕ) → i < length p12Frames → (bytes : List ℕ)
 -- P11, and then a second writing of the value: DTR0 3, and the bytes 00 00 02 2C
 abbrev pub p11Twice : List Input
 p11Twice = p11Frames ++ at 900 0xC13003 ∷ at 1000 0xC12000 ∷ at 1100 0xC12000 ∷ at 1200 0xC12002 ∷ at 1300 0xC1202C ∷ []
+
+-- P12, and then a write to ROM, which drops what is staged; then the value anew: DTR0 3, and the bytes 00 00 01 2C
+abbrev pub p11Anew : List Input
+p11Anew =
+    p12Frames ++ at 800 0xC50000 ∷ at 900 0xC13003 ∷ at 1000 0xC12000 ∷ at 1100 0xC12000 ∷ at 1200 0xC12001
+    ∷ at 1300 0xC1202C ∷ []

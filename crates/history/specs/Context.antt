@@ -87,14 +87,18 @@ heardIn rs k pair x =
       enabled = enabledBy (k .enabled) (deedIn rs k pair x);
     }
 
--- start acts as a power-on: DTRs 0, not enabled
-unfoldable pub poweredIn : Who → Context
-poweredIn who = record { who = who; registers = zeroRegisters; enabled = false }
+-- a power-on keeps address and groups: DTRs 0, not enabled
+unfoldable pub poweredIn : Context → Context
+poweredIn k = record { who = k .who; registers = zeroRegisters; enabled = false }
+
+-- start takes address and groups and acts as a power-on
+unfoldable pub startedIn : Who → Context
+startedIn who = poweredIn (record { who = who; registers = zeroRegisters; enabled = false })
 
 -- worked out from start, map and list
 unfoldable pub context : List Record → Who → List Input → Context
-context rs who [] = poweredIn who
-context rs who (power-on ∷ h) = poweredIn (context rs who h .who)
+context rs who [] = startedIn who
+context rs who (power-on ∷ h) = poweredIn (context rs who h)
 context rs who (hears x ∷ h) = heardIn rs (context rs who h) (endsPair h x) x
 
 -- what an input is, after the history h

@@ -26,24 +26,37 @@ module _ {S : Type 0} (machine : Machine S) (start : Start) where
   Value v h bytes =
       ValueAt (recordsOf (start .map)) (start .who) (start .image) (after machine start [] .store) v h bytes
 
-  -- what is demanded of a writable value v at the point after h
+  -- what is demanded of a writable value v at the point after h: `value` and `one`. The four lines after them say what
+  -- that means; of any machine they follow from these two, of every accepted point (`OthersFollow`)
   pub record Whole (v : Record) (h : List Input) : Type 0 where
     -- its bytes are the whole value of its last complete writing, or what a later reset or power-on put there, or
     -- what the start left
     pub value : Value v h (bytesOf v h)
     -- and there is one such value
     pub one : (bytes : List ℕ) → Value v h bytes → bytesOf v h ≡ bytes
-    -- a complete writing is in the store, whole, in the very step of its last byte
+    -- a complete writing is in the store, whole, in the very step of its last byte: by `one`, since its last write is
+    -- then what put the value
     pub complete : (bytes : List ℕ) → WritingAt (recordsOf (start .map)) (start .who) v bytes h → bytesOf v h ≡ bytes
-    -- one more input that ends no writing of it, and is no reset or power-on of it, changes no byte: a writing cut
-    -- short at any frame
+    -- a writing cut short at any frame, from its first write on: no byte of its value has changed. By `unchanged`,
+    -- since inside a writing of a value nothing else is put there
+    pub cut-short : (bytes : List ℕ) (w : WritingAt (recordsOf (start .map)) (start .who) v bytes h) (i : ℕ)
+        → w .place 0 ≤ i → i < length h → bytesOf v (past h i) ≡ bytesOf v (past h (w .place 0))
+    -- one more input that ends no writing of it, and is no reset or power-on of it, changes no byte: by `unchanged`
     pub cut : (x : Input) → Accepted machine start (x ∷ h)
         → ((bytes : List ℕ) → ¬ Put (recordsOf (start .map)) (start .who) (start .image) v (x ∷ h) bytes)
         → bytesOf v (x ∷ h) ≡ bytesOf v h
-    -- so do any number of them: from input i on nothing was put
+    -- so do any number of them: from input i on nothing was put. By `value` of that point and `one` of this
     pub unchanged : (i : ℕ) → i ≤ length h
         → ((j : ℕ) → i ≤ j → j < length h → PutsNone (recordsOf (start .map)) (start .who) (start .image) v h j)
         → bytesOf v h ≡ bytesOf v (past h i)
+
+-- of any machine: where the first two lines hold of a value at every accepted point, all of them do
+abbrev pub OthersFollow : {S : Type 0} → Machine S → Type 0
+OthersFollow machine = (start : Start) (v : Record) → 1 ≤ v .width
+    → ((h : List Input) → Accepted machine start h → Value machine start v h (bytesOf machine start v h))
+    → ((h : List Input) → Accepted machine start h → (bytes : List ℕ) → Value machine start v h bytes
+    → bytesOf machine start v h ≡ bytes)
+    → (h : List Input) → Accepted machine start h → Whole machine start v h
 
 -- for every map, image, store, address and groups, accepted start, and every list of inputs, each accepted: at every
 -- point each writable value is whole

@@ -6,5 +6,6 @@ pub mod Writing
 pub mod Value
 pub mod Machine
 pub mod Demand
-pub mod Wrong
+pub mod Use
 pub mod Bench
+pub mod Wrong

@@ -2,12 +2,12 @@
 -- half-sentence by half-sentence. Input number i of a history is the one that i inputs stand before.
 -- Assumes nothing.
 use mathlib.Core.Path.{_≡_}
+use mathlib.Core.Logic.{_⊎_}
 use mathlib.Core.Bool.{true}
 use mathlib.Core.List.{List, [], _∷_}
 use Prim.Native.Nat.{ℕ, suc, _+_, _-_, _<_, _≤_}
 use lib.ListN.{length, drop, getD}
 use Rattle.records.specs.declared.record.Record.{Record}
-use Rattle.memory.specs.Filled.{selects}
 use Rattle.hearing.specs.declared.rooms.Who.{Who}
 use Rattle.unit.specs.Run.{Input}
 use Rattle.history.specs.Deeds.{Deed, opens, resets, puts, breaks, powers, keeping}
@@ -17,6 +17,10 @@ use Rattle.history.specs.Lock.{lock, Unlocks}
 -- the first i inputs of a history
 unfoldable pub past : List Input → ℕ → List Input
 past h i = drop (length h - i) h
+
+-- DTR0=0 means each mapped bank 1..199, else bank DTR0
+abbrev pub Selected : ℕ → ℕ → Type 0
+Selected dtr0 bank = ((dtr0 ≡ 0) × (1 ≤ bank)) ⊎ ((1 ≤ dtr0) × (bank ≡ dtr0))
 
 module _ (rs : List Record) (who : Who) where
   -- what the newest input is
@@ -58,6 +62,6 @@ module _ (rs : List Record) (who : Who) where
     pub dtr0 : ℕ
     pub pair : deedAfter rs who h x ≡ resets dtr0
     -- whose DTR0 selects the bank
-    pub selected : selects dtr0 bank ≡ true
+    pub selected : Selected dtr0 bank
     -- while its lock byte, by this grammar, is 0x55
     pub unlocked : lock rs who h bank ≡ 0x55
