@@ -1,0 +1,4 @@
+pub mod Fitting
+pub mod Following
+pub mod Demand
+pub mod Each
