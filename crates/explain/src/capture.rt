@@ -1,110 +1,157 @@
-// The capture, record by record, with what the unit replied.
-ghost use Prim.Native.Nat.{_<_, _≤_};
+// The capture, record by record, by a unit that takes the same steps.
 use crate::output::print;
-use crate::output::print_refusal;
-use entries::Entry;
+use crate::values::read_file;
+use crate::values::show_values;
 use entries::entry_at;
-use entries::four_bytes;
 use entries::is_broken;
+use hearing::Who;
+use libc::STDIN_FILENO;
+use rooms::State;
+use telling::say_step;
+use telling::say_who;
+use telling::see;
 use text::Line;
-use text::say_frame;
-use text::say_refusal;
 
-// What a turn has come to: there may be more, all is shown, or a record was unfinished or of unknown kind.
-enum Shown {
-    More,
-    All,
-    Broken,
+// Between two records: the state, whether all that was due is written, whether to read on, and whether the capture ended
+// with a whole record of known kind.
+struct Flow {
+    state: State,
+    written: bool,
+    goes_on: bool,
+    whole: bool,
 }
 
-// Internal: the clock of record number i, with which its line begins.
-fn say_clock(records: &[u8; 4096], i: usize) -> Line
-    requires { ⌜ i < 512 ⌝ }
-{
-    let at = 8 * i;
-    let clock = four_bytes(
-        records[at],
-        records[at + 1],
-        records[at + 2],
-        records[at + 3],
-    );
-    Line::new().aligned(clock).add(b" ms  ")
+// The width of the value whose bytes are staged.
+fn staged_width(map: &[u8], store: &[u8], state: State) -> u8 {
+    let door = state.door;
+    let staged = door.staged;
+    let value = looks::look_at(map, store, staged.bank, staged.first);
+    value.width
 }
 
-// Internal: the trace program's reply to record number i, if it says anything.
-fn say_reply(line: Line, replies: &[u8; 2048], i: usize) -> Line
-    requires { ⌜ i < 512 ⌝ }
-{
-    let at = 4 * i;
-    let number = replies[at];
-    if number > 0 {
-        return say_refusal(line.column(69).add(b"  "), number);
+// What the record did, and the values that it changed. Answers whether all of it is written.
+fn show_step(
+    map: &[u8],
+    seen: &[u8],
+    store: &[u8],
+    record: &[u8; 8],
+    reply: [u8; 4],
+    was: State,
+    is: State,
+) -> bool {
+    let width = staged_width(map, store, is);
+    let same = check::same(seen, store);
+    let written = print(say_step(record, reply, was, is, width, same));
+    if same {
+        return written;
     }
-    if replies[at + 1] > 0 {
-        return line.column(69).add(b"  answered ").hex(replies[at + 2]);
-    }
-    line
+    written & show_values(map, seen, store, false, 21)
 }
 
-fn say_entry(line: Line, entry: Entry) -> Line {
-    match entry {
-        Entry::Frame(_, frame) => say_frame(line.frame(frame).add(b"  "), frame),
-        Entry::PowerOn => line.add(b"        power-on"),
-        Entry::Broken => line,
+// A record of known kind: its step, shown.
+fn show_record(
+    map: &[u8],
+    store: &mut [u8],
+    seen: &mut [u8],
+    image: &[u8],
+    was: State,
+    record: &[u8; 8],
+) -> Flow {
+    let mut reply = [0u8; 4];
+    let ran = tracing::run(map, store, image, was, record, &mut reply);
+    let is = ran.state;
+    let written = show_step(map, seen, store, record, reply, was, is);
+    see(seen, store);
+    Flow {
+        state: is,
+        written: written,
+        goes_on: written,
+        whole: true,
     }
 }
 
-// Internal: the first records, up to one of unknown kind. Says whether there was none.
-fn show_records(records: &[u8; 4096], replies: &[u8; 2048], count: usize) -> bool
-    requires { ⌜ count ≤ 512 ⌝ }
-{
-    let mut i = 0;
-    while i < count {
-        let entry = entry_at(records, i);
-        if is_broken(entry) {
-            return false;
-        }
-        let said = say_entry(say_clock(records, i), entry);
-        print(say_reply(said, replies, i));
-        i += 1;
-    }
-    true
+fn is_known(record: &[u8; 8]) -> bool {
+    !is_broken(entry_at(record, 0))
 }
 
-// As many records as a buffer holds. Replies that the trace program did not write are zeros.
-fn show_some(out: i32) -> Shown {
-    let mut records = [0u8; 4096];
-    let mut replies = [0u8; 2048];
-    let n = io::read_full(0, &mut records);
-    let count = n / 8;
-    io::read_full(out, &mut replies[0..4 * count]);
-    if show_records(&records, &replies, count) {
-        if n == 4096 {
-            return Shown::More;
-        }
-        if n % 8 == 0 {
-            return Shown::All;
-        }
+fn show_next(map: &[u8], store: &mut [u8], seen: &mut [u8], image: &[u8], state: State) -> Flow {
+    let mut record = [0u8; 8];
+    let n = io::read_full(STDIN_FILENO, &mut record);
+    if (n == 8) & is_known(&record) {
+        return show_record(map, store, seen, image, state, &record);
     }
-    print_refusal(13);
-    Shown::Broken
+    Flow {
+        state: state,
+        written: true,
+        goes_on: false,
+        whole: n == 0,
+    }
 }
 
-// Says whether all of it was shown. A proved loop has to end, and nothing says that the input does: it counts its
-// turns down from a number that no run uses up.
-pub fn show_capture(out: i32) -> bool {
+// Behind a capture that is whole, the values that the file has, and those that are there in the end. Answers whether all
+// is written.
+fn show_ends(map: &[u8], seen: &mut [u8], store: &[u8], written: bool, whole: bool) -> bool {
+    if written & whole {
+        let n = read_file(b"unit.sto", seen);
+        return print(Line::new()) & show_values(map, &seen[..n], store, true, 0);
+    }
+    written
+}
+
+// Answers whether all is written. A proved loop has to end, and nothing says that the input does: it counts its turns
+// down from a number that no run uses up.
+fn show_records(
+    map: &[u8],
+    store: &mut [u8],
+    seen: &mut [u8],
+    image: &[u8],
+    state: State,
+    begun: bool,
+) -> bool {
+    let mut flow = Flow {
+        state: state,
+        written: begun,
+        goes_on: begun,
+        whole: true,
+    };
     let mut turns = u64::MAX;
-    while turns > 0 {
-        match show_some(out) {
-            Shown::More => {}
-            Shown::All => {
-                return true;
-            }
-            Shown::Broken => {
-                return false;
-            }
-        }
+    while turns > 0 && flow.goes_on {
+        flow = show_next(map, store, seen, image, flow.state);
         turns -= 1;
     }
-    false
+    show_ends(map, seen, store, flow.written, flow.whole)
+}
+
+// Who the unit is, and what the start changed. Answers whether all of it is written.
+fn show_start(map: &[u8], seen: &[u8], store: &[u8], who: Who) -> bool {
+    let written = print(say_who(Line::new().column(21).add(b"start"), who));
+    written & show_values(map, seen, store, false, 21)
+}
+
+// Answers whether all is written.
+fn show_unit(map: &[u8], store: &mut [u8], seen: &mut [u8], image: &[u8], who: Who) -> bool {
+    let started = unit::start(map, store, image, who);
+    let begun = show_start(map, seen, store, who);
+    see(seen, store);
+    let state = started.state;
+    show_records(map, store, seen, image, state, begun)
+}
+
+// Nothing of a unit whose start is refused. Answers whether all is written.
+fn show_files(map: &[u8], store: &mut [u8], seen: &mut [u8], image: &[u8], adr: &[u8]) -> bool {
+    if tracing::number_of_files(map, store, image, adr) != 0 {
+        return true;
+    }
+    let who = tracing::who_of(adr);
+    show_unit(map, store, seen, image, who)
+}
+
+// The store is there twice: what was seen of it is a step behind. A room has a byte more than the limit, so that a longer
+// file is seen to be longer. Answers whether all is written.
+pub fn show(map: &[u8], image: &[u8], adr: &[u8]) -> bool {
+    let mut store = [0u8; 4097];
+    let mut seen = [0u8; 4097];
+    let n = read_file(b"unit.sto", &mut store);
+    let m = read_file(b"unit.sto", &mut seen);
+    show_files(map, &mut store[..n], &mut seen[..m], image, adr)
 }

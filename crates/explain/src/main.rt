@@ -1,13 +1,17 @@
-// Shows a capture to a person in words: each frame, what it was, what the unit answered; then the values.
+// Shows a capture of the unit of the working folder in words: each record, what it did, and the values that it changed;
+// last the values before and after. What it refuses, it leaves to the trace program to say.
 mod output; // a line is written
-mod capture; // record by record
 mod values; // before and after
+mod capture; // record by record
 
 fn main() {
-    let out = os::open_read(b"unit.out");
-    if capture::show_capture(out) {
-        output::print(text::Line::new());
-        values::show_values(out);
+    let mut map = [0u8; 513];
+    let mut image = [0u8; 4097];
+    let mut adr = [0u8; 6];
+    let mapped = values::read_file(b"unit.map", &mut map);
+    let kept = values::read_file(b"unit.rst", &mut image);
+    let addressed = values::read_file(b"unit.adr", &mut adr);
+    if !capture::show(&map[..mapped], &image[..kept], &adr[..addressed]) {
+        output::say_lost();
     }
-    libc::close(out);
 }
