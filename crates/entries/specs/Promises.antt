@@ -37,7 +37,7 @@ abbrev pub EntryAtPromise : List ℕ → ℕ → Entry → Type 0
 EntryAtPromise bytes i r = r ≡ entryAt bytes i
 
 abbrev pub KeepRestPromise : List ℕ → ℕ → ℕ → List ℕ → Type 0
-KeepRestPromise before filled r after = Keeps r before after filled
+KeepRestPromise before filled r left = Keeps r before left filled
 
 -- ---- results meeting the same promise are equal
 

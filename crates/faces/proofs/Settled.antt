@@ -1,16 +1,18 @@
 -- Results that meet the same promise are equal, for each call.
 -- Assumes nothing.
 use mathlib.Core.Path.{_≡_, sym, _∙_}
+use mathlib.Core.List.{List}
+use Prim.Native.Nat.{ℕ}
 use Rattle.laws.proofs.Settled.{settles}
-use Rattle.faces.specs.Face.{Faced, RunFaced}
+use Rattle.faces.specs.Face.{Faced, Faces, RunFaced, RunFaces}
 use Rattle.faces.specs.Promises.{SettlesFaced, SettlesRun, Settled}
 
-faced : (f : Faced) → SettlesFaced f
+faced : (f : Faced) → SettlesFaced (λ (a : ℕ) (s u : List ℕ). Faces a s u f)
 faced f a b s t u v p q =
     (p .answers ∙ sym (q .answers), p .keeps ∙ sym (q .keeps), p .leaves ∙ sym (q .leaves))
 
-ran : (f : RunFaced) → SettlesRun f
-ran f m n s t u v o p before q r = (
+ran : (before : List ℕ) (f : RunFaced) → SettlesRun (λ (m : ℕ) (s u o : List ℕ). RunFaces m s u o before f)
+ran before f m n s t u v o p q r = (
   q .counts ∙ sym (r .counts),
   q .keeps ∙ sym (r .keeps),
   q .leaves ∙ sym (r .leaves),
@@ -24,7 +26,7 @@ settled =
       start = λ map store image address groups. faced _;
       frame = λ map store image bytes frame clock. faced _;
       power-on = λ map store image bytes. faced _;
-      run = λ map store image bytes es. ran _;
+      run = λ map store image bytes records before. ran before _;
       look = λ map store bank location. settles _;
       read = λ frame. settles _;
       write = λ word. settles _;

@@ -23,13 +23,14 @@ use Rattle.rooms.specs.Rules.{stateHolds}
 use Rattle.rooms.specs.declared.reply.Reply.{Reply}
 use Rattle.numbers.specs.Numbers.{startTests, heardTests}
 use Rattle.numbers.specs.Promises.{GivenBy}
-use Rattle.entries.specs.declared.entry.Entry.{Entry}
+use Rattle.entries.specs.Entry.{entries}
+use Rattle.tracing.specs.Run.{roomFor}
 use Rattle.packing.specs.StateBytes.{flag, stateOf, shapeHolds}
 use Rattle.packing.specs.Promises.{Bytes}
 use Rattle.faces.specs.Answers.{replyWord, lookWord, writtenOf, source}
 use Rattle.faces.specs.Answers.{checkAnswer, lookAnswer, readAnswer, writeAnswer, eventAnswer, powerAnswer}
 use Rattle.faces.specs.Face.{Faced, thenNumber, frameFace, powerOnFace, startFace, Faces}
-use Rattle.faces.specs.Face.{RunFaced, runFace, RunFaces}
+use Rattle.faces.specs.Face.{runFace, RunFaces}
 
 -- ---- an answer as one number
 
@@ -143,26 +144,75 @@ pub record Refused (map store image : List ℕ) : Type 0 where
 abbrev pub FacesRefused : Type 0
 FacesRefused = (map store image : List ℕ) → Refused map store image
 
+-- ---- what each call promises of its answer r, and the C call of the same name with it
+
+-- mf_check
+abbrev pub CheckFacePromise : List ℕ → List ℕ → List ℕ → ℕ → Type 0
+CheckFacePromise map store image r = r ≡ checkAnswer map store image
+
+-- mf_look
+abbrev pub LookFacePromise : List ℕ → List ℕ → ℕ → ℕ → ℕ → Type 0
+LookFacePromise map store bank location r = r ≡ lookAnswer map store bank location
+
+-- mf_start; state and left are the state's bytes and the store afterwards
+abbrev pub StartFacePromise : List ℕ → List ℕ → List ℕ → ℕ → ℕ → ℕ → List ℕ → List ℕ → Type 0
+StartFacePromise map store image address groups r state left =
+    Faces r state left (startFace map store image address groups)
+
+-- mf_frame
+abbrev pub FrameFacePromise : List ℕ → List ℕ → List ℕ → List ℕ → ℕ → ℕ → ℕ → List ℕ → List ℕ → Type 0
+FrameFacePromise map store image bytes frame clock r state left =
+    Faces r state left (frameFace map store image bytes frame clock)
+
+-- mf_power_on
+abbrev pub PowerOnFacePromise : List ℕ → List ℕ → List ℕ → List ℕ → ℕ → List ℕ → List ℕ → Type 0
+PowerOnFacePromise map store image bytes r state left = Faces r state left (powerOnFace map store image bytes)
+
+-- mf_run: of the whole records, as many as the output has room for; the output was `before`
+abbrev pub RunFacePromise : List ℕ → List ℕ → List ℕ → List ℕ → List ℕ → List ℕ →
+    ℕ → List ℕ → List ℕ → List ℕ → Type 0
+RunFacePromise map store image bytes records before r state left output =
+    RunFaces r state left output before
+    (runFace map store image bytes (entries records (roomFor (length records) (length before))))
+
+-- mf_read
+abbrev pub ReadFacePromise : ℕ → ℕ → Type 0
+ReadFacePromise frame r = r ≡ readAnswer frame
+
+-- mf_write
+abbrev pub WriteFacePromise : ℕ → ℕ → Type 0
+WriteFacePromise word r = r ≡ writeAnswer word
+
+-- mf_compose_event
+abbrev pub ComposeEventFacePromise : ℕ → ℕ → ℕ → ℕ → ℕ → ℕ → ℕ → ℕ → Type 0
+ComposeEventFacePromise sort number primary short groups information scheme r =
+    r ≡ eventAnswer sort number primary short groups information scheme
+
+-- mf_compose_power
+abbrev pub ComposePowerFacePromise : ℕ → ℕ → ℕ → Type 0
+ComposePowerFacePromise short groups r = r ≡ powerAnswer short groups
+
 -- ---- results that meet the same promise are equal
 
-abbrev pub SettlesFaced : Faced → Type 0
-SettlesFaced f = (a b : ℕ) (s t u v : List ℕ) → Faces a s u f → Faces b t v f → (a ≡ b) × (s ≡ t) × (u ≡ v)
+abbrev pub SettlesFaced : (ℕ → List ℕ → List ℕ → Type 0) → Type 0
+SettlesFaced promise = (a b : ℕ) (s t u v : List ℕ) → promise a s u → promise b t v → (a ≡ b) × (s ≡ t) × (u ≡ v)
 
-abbrev pub SettlesRun : RunFaced → Type 0
-SettlesRun f = (m n : ℕ) (s t u v o p before : List ℕ) → RunFaces m s u o before f → RunFaces n t v p before f →
+abbrev pub SettlesRun : (ℕ → List ℕ → List ℕ → List ℕ → Type 0) → Type 0
+SettlesRun promise = (m n : ℕ) (s t u v o p : List ℕ) → promise m s u o → promise n t v p →
     (m ≡ n) × (s ≡ t) × (u ≡ v) × (o ≡ p)
 
 pub record Settled : Type 0 where
-  pub check : (map store image : List ℕ) → Settles (λ (r : ℕ). r ≡ checkAnswer map store image)
-  pub start : (map store image : List ℕ) (address groups : ℕ) → SettlesFaced (startFace map store image address groups)
+  pub check : (map store image : List ℕ) → Settles (CheckFacePromise map store image)
+  pub start : (map store image : List ℕ) (address groups : ℕ) →
+      SettlesFaced (StartFacePromise map store image address groups)
   pub frame : (map store image bytes : List ℕ) (frame clock : ℕ) →
-      SettlesFaced (frameFace map store image bytes frame clock)
-  pub power-on : (map store image bytes : List ℕ) → SettlesFaced (powerOnFace map store image bytes)
-  pub run : (map store image bytes : List ℕ) (es : List Entry) → SettlesRun (runFace map store image bytes es)
-  pub look : (map store : List ℕ) (bank location : ℕ) →
-      Settles (λ (r : ℕ). r ≡ lookAnswer map store bank location)
-  pub read : (frame : ℕ) → Settles (λ (r : ℕ). r ≡ readAnswer frame)
-  pub write : (word : ℕ) → Settles (λ (r : ℕ). r ≡ writeAnswer word)
+      SettlesFaced (FrameFacePromise map store image bytes frame clock)
+  pub power-on : (map store image bytes : List ℕ) → SettlesFaced (PowerOnFacePromise map store image bytes)
+  pub run : (map store image bytes records before : List ℕ) →
+      SettlesRun (RunFacePromise map store image bytes records before)
+  pub look : (map store : List ℕ) (bank location : ℕ) → Settles (LookFacePromise map store bank location)
+  pub read : (frame : ℕ) → Settles (ReadFacePromise frame)
+  pub write : (word : ℕ) → Settles (WriteFacePromise word)
   pub compose-event : (sort number primary short groups information scheme : ℕ) →
-      Settles (λ (r : ℕ). r ≡ eventAnswer sort number primary short groups information scheme)
-  pub compose-power : (short groups : ℕ) → Settles (λ (r : ℕ). r ≡ powerAnswer short groups)
+      Settles (ComposeEventFacePromise sort number primary short groups information scheme)
+  pub compose-power : (short groups : ℕ) → Settles (ComposePowerFacePromise short groups)

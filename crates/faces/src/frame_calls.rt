@@ -3,7 +3,8 @@ ghost use mathlib.Core.Path.{_≡_};
 ghost use mathlib.Core.Bool.{true};
 ghost use Rattle.frames.specs.Values.{writingWord};
 ghost use Rattle.faces.specs.Answers.{outOfRange, fieldsHeld, Held};
-ghost use Rattle.faces.specs.Answers.{readAnswer, writeAnswer, eventAnswer, powerAnswer};
+ghost use Rattle.faces.specs.Promises.{ReadFacePromise, WriteFacePromise};
+ghost use Rattle.faces.specs.Promises.{ComposeEventFacePromise, ComposePowerFacePromise};
 use crate::answers::writing_word;
 use composing::Source;
 use frames::Reading;
@@ -11,7 +12,7 @@ use frames::Writing;
 
 // The message word of a frame.
 pub fn read_face(frame: u32) -> u64
-    ensures { λ r. ⌜ r ≡ readAnswer frame ⌝ }
+    ensures { λ r. ⌜ ReadFacePromise frame r ⌝ }
 {
     words::word_of(frames::read(frame))
 }
@@ -25,7 +26,7 @@ fn out_of_range() -> u32
 
 // The frame of a message word.
 pub fn write_face(word: u64) -> u32
-    ensures { λ r. ⌜ r ≡ writeAnswer word ⌝ }
+    ensures { λ r. ⌜ WriteFacePromise word r ⌝ }
 {
     let Reading::Got(message) = words::message_of(word) else {
         return out_of_range();
@@ -56,7 +57,7 @@ pub fn compose_event_face(
     information: u32,
     scheme: u32,
 ) -> u32
-    ensures { λ r. ⌜ r ≡ eventAnswer sort number primary short groups information scheme ⌝ }
+    ensures { λ r. ⌜ ComposeEventFacePromise sort number primary short groups information scheme r ⌝ }
 {
     if !is_held(sort, number, primary, short, information, scheme) {
         return out_of_range();
@@ -75,7 +76,7 @@ pub fn compose_event_face(
 
 // The frame of a power event.
 pub fn compose_power_face(short: u32, groups: u32) -> u32
-    ensures { λ r. ⌜ r ≡ powerAnswer short groups ⌝ }
+    ensures { λ r. ⌜ ComposePowerFacePromise short groups r ⌝ }
 {
     if short > 255 {
         return out_of_range();

@@ -3,10 +3,9 @@ ghost use mathlib.Core.Path.{_≡_};
 ghost use mathlib.Core.Bool.{false};
 ghost use lib.ListN.{length};
 ghost use Rattle.rooms.specs.Rules.{addressHolds};
-ghost use Rattle.entries.specs.Entry.{entries};
-ghost use Rattle.tracing.specs.Run.{roomFor};
-ghost use Rattle.faces.specs.Answers.{checkAnswer, lookAnswer};
-ghost use Rattle.faces.specs.Face.{thenNumber, startFace, frameFace, powerOnFace, Faces, runFace, RunFaces};
+ghost use Rattle.faces.specs.Face.{thenNumber};
+ghost use Rattle.faces.specs.Promises.{CheckFacePromise, LookFacePromise, StartFacePromise, FrameFacePromise};
+ghost use Rattle.faces.specs.Promises.{PowerOnFacePromise, RunFacePromise};
 use crate::answers::look_word;
 use crate::answers::no_look_word;
 use crate::answers::refusal_word;
@@ -19,7 +18,7 @@ use rooms::State;
 
 // The number of map, store and reset image: 7 to 11, or 0.
 pub fn check_face(map: &[u8], store: &[u8], image: &[u8]) -> u32
-    ensures { λ r. ⌜ r ≡ checkAnswer (now (map .entry)) (now (store .entry)) (now (image .entry)) ⌝ }
+    ensures { λ r. ⌜ CheckFacePromise (now (map .entry)) (now (store .entry)) (now (image .entry)) r ⌝ }
 {
     banks::check(map, store, image) as u32
 }
@@ -38,7 +37,7 @@ fn number_then(map: &[u8], store: &[u8], image: &[u8], own: u8) -> u8
 // Number, width and store offset of the value that begins at the bank and location. They are wider than bytes, so that
 // neither is cut to fit: no value begins at one over 255.
 pub fn look_face(map: &[u8], store: &[u8], bank: u32, location: u32) -> u32
-    ensures { λ r. ⌜ r ≡ lookAnswer (now (map .entry)) (now (store .entry)) bank location ⌝ }
+    ensures { λ r. ⌜ LookFacePromise (now (map .entry)) (now (store .entry)) bank location r ⌝ }
 {
     if bank > 255 {
         return no_look_word(number_then(map, store, store, 14));
@@ -59,7 +58,8 @@ pub fn start_face(
     groups: u32,
     state: &mut [u8; 96],
 ) -> u32
-    ensures { λ r. ⌜ Faces r (now (state .exit)) (now (store .exit)) (startFace (now (map .entry)) (now (store .entry)) (now (image .entry)) address groups) ⌝ }
+    ensures { λ r. ⌜ StartFacePromise (now (map .entry)) (now (store .entry)) (now (image .entry))
+        address groups r (now (state .exit)) (now (store .exit)) ⌝ }
 {
     if address > 255 {
         *state = [0; 96];
@@ -84,7 +84,8 @@ pub fn frame_face(
     frame: u32,
     clock: u32,
 ) -> u32
-    ensures { λ r. ⌜ Faces r (now (state .exit)) (now (store .exit)) (frameFace (now (map .entry)) (now (store .entry)) (now (image .entry)) (now (state .entry)) frame clock) ⌝ }
+    ensures { λ r. ⌜ FrameFacePromise (now (map .entry)) (now (store .entry)) (now (image .entry)) (now (state .entry))
+        frame clock r (now (state .exit)) (now (store .exit)) ⌝ }
 {
     let bytes = *state;
     if !shape_holds(bytes) {
@@ -99,7 +100,8 @@ pub fn frame_face(
 
 // A later power-on.
 pub fn power_on_face(map: &[u8], store: &mut [u8], image: &[u8], state: &mut [u8; 96]) -> u32
-    ensures { λ r. ⌜ Faces r (now (state .exit)) (now (store .exit)) (powerOnFace (now (map .entry)) (now (store .entry)) (now (image .entry)) (now (state .entry))) ⌝ }
+    ensures { λ r. ⌜ PowerOnFacePromise (now (map .entry)) (now (store .entry)) (now (image .entry)) (now (state .entry))
+        r (now (state .exit)) (now (store .exit)) ⌝ }
 {
     let bytes = *state;
     if !shape_holds(bytes) {
@@ -129,7 +131,9 @@ pub fn run_face(
     records: &[u8],
     output: &mut [u8],
 ) -> usize
-    ensures { λ r. ⌜ RunFaces r (now (state .exit)) (now (store .exit)) (now (output .exit)) (now (output .entry)) (runFace (now (map .entry)) (now (store .entry)) (now (image .entry)) (now (state .entry)) (entries (now (records .entry)) (roomFor (length (now (records .entry))) (length (now (output .entry)))))) ⌝ }
+    ensures { λ r. ⌜ RunFacePromise (now (map .entry)) (now (store .entry)) (now (image .entry)) (now (state .entry))
+        (now (records .entry)) (now (output .entry))
+        r (now (state .exit)) (now (store .exit)) (now (output .exit)) ⌝ }
 {
     let bytes = *state;
     let kept = unpack(bytes);

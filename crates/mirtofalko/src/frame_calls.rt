@@ -1,11 +1,11 @@
 // The calls on frames alone.
-ghost use mathlib.Core.Path.{_≡_};
-ghost use Rattle.faces.specs.Answers.{readAnswer, writeAnswer, eventAnswer, powerAnswer};
+ghost use Rattle.faces.specs.Promises.{ReadFacePromise, WriteFacePromise};
+ghost use Rattle.faces.specs.Promises.{ComposeEventFacePromise, ComposePowerFacePromise};
 
 // The message word of a frame.
 #[no_mangle]
 pub extern "C" fn mf_read(frame: u32) -> u64
-    ensures { λ r. ⌜ r ≡ readAnswer frame ⌝ }
+    ensures { λ r. ⌜ ReadFacePromise frame r ⌝ }
 {
     faces::read_face(frame)
 }
@@ -13,7 +13,7 @@ pub extern "C" fn mf_read(frame: u32) -> u64
 // The frame of a message word.
 #[no_mangle]
 pub extern "C" fn mf_write(word: u64) -> u32
-    ensures { λ r. ⌜ r ≡ writeAnswer word ⌝ }
+    ensures { λ r. ⌜ WriteFacePromise word r ⌝ }
 {
     faces::write_face(word)
 }
@@ -29,7 +29,7 @@ pub extern "C" fn mf_compose_event(
     information: u32,
     scheme: u32,
 ) -> u32
-    ensures { λ r. ⌜ r ≡ eventAnswer sort number primary short groups information scheme ⌝ }
+    ensures { λ r. ⌜ ComposeEventFacePromise sort number primary short groups information scheme r ⌝ }
 {
     faces::compose_event_face(sort, number, primary, short, groups, information, scheme)
 }
@@ -37,7 +37,7 @@ pub extern "C" fn mf_compose_event(
 // The frame of a power event.
 #[no_mangle]
 pub extern "C" fn mf_compose_power(short: u32, groups: u32) -> u32
-    ensures { λ r. ⌜ r ≡ powerAnswer short groups ⌝ }
+    ensures { λ r. ⌜ ComposePowerFacePromise short groups r ⌝ }
 {
     faces::compose_power_face(short, groups)
 }

@@ -1,15 +1,11 @@
 // The calls of the unit: on a map, a store, a reset image and a state of 96 bytes.
-ghost use mathlib.Core.Path.{_≡_};
-ghost use lib.ListN.{length};
-ghost use Rattle.entries.specs.Entry.{entries};
-ghost use Rattle.tracing.specs.Run.{roomFor};
-ghost use Rattle.faces.specs.Answers.{checkAnswer, lookAnswer};
-ghost use Rattle.faces.specs.Face.{startFace, frameFace, powerOnFace, Faces, runFace, RunFaces};
+ghost use Rattle.faces.specs.Promises.{CheckFacePromise, LookFacePromise, StartFacePromise, FrameFacePromise};
+ghost use Rattle.faces.specs.Promises.{PowerOnFacePromise, RunFacePromise};
 
 // The number of map, store and reset image: 7 to 11, or 0.
 #[no_mangle]
 pub extern "C" fn mf_check(map: &[u8], store: &[u8], image: &[u8]) -> u32
-    ensures { λ r. ⌜ r ≡ checkAnswer (now (map .entry)) (now (store .entry)) (now (image .entry)) ⌝ }
+    ensures { λ r. ⌜ CheckFacePromise (now (map .entry)) (now (store .entry)) (now (image .entry)) r ⌝ }
 {
     faces::check_face(map, store, image)
 }
@@ -17,7 +13,7 @@ pub extern "C" fn mf_check(map: &[u8], store: &[u8], image: &[u8]) -> u32
 // Number, width and store offset of the value that begins at the bank and location.
 #[no_mangle]
 pub extern "C" fn mf_look(map: &[u8], store: &[u8], bank: u32, location: u32) -> u32
-    ensures { λ r. ⌜ r ≡ lookAnswer (now (map .entry)) (now (store .entry)) bank location ⌝ }
+    ensures { λ r. ⌜ LookFacePromise (now (map .entry)) (now (store .entry)) bank location r ⌝ }
 {
     faces::look_face(map, store, bank, location)
 }
@@ -32,7 +28,8 @@ pub extern "C" fn mf_start(
     groups: u32,
     state: &mut [u8; 96],
 ) -> u32
-    ensures { λ r. ⌜ Faces r (now (state .exit)) (now (store .exit)) (startFace (now (map .entry)) (now (store .entry)) (now (image .entry)) address groups) ⌝ }
+    ensures { λ r. ⌜ StartFacePromise (now (map .entry)) (now (store .entry)) (now (image .entry))
+        address groups r (now (state .exit)) (now (store .exit)) ⌝ }
 {
     faces::start_face(map, store, image, address, groups, state)
 }
@@ -47,7 +44,8 @@ pub extern "C" fn mf_frame(
     frame: u32,
     clock: u32,
 ) -> u32
-    ensures { λ r. ⌜ Faces r (now (state .exit)) (now (store .exit)) (frameFace (now (map .entry)) (now (store .entry)) (now (image .entry)) (now (state .entry)) frame clock) ⌝ }
+    ensures { λ r. ⌜ FrameFacePromise (now (map .entry)) (now (store .entry)) (now (image .entry)) (now (state .entry))
+        frame clock r (now (state .exit)) (now (store .exit)) ⌝ }
 {
     faces::frame_face(map, store, image, state, frame, clock)
 }
@@ -60,7 +58,8 @@ pub extern "C" fn mf_power_on(
     image: &[u8],
     state: &mut [u8; 96],
 ) -> u32
-    ensures { λ r. ⌜ Faces r (now (state .exit)) (now (store .exit)) (powerOnFace (now (map .entry)) (now (store .entry)) (now (image .entry)) (now (state .entry))) ⌝ }
+    ensures { λ r. ⌜ PowerOnFacePromise (now (map .entry)) (now (store .entry)) (now (image .entry)) (now (state .entry))
+        r (now (state .exit)) (now (store .exit)) ⌝ }
 {
     faces::power_on_face(map, store, image, state)
 }
@@ -75,7 +74,9 @@ pub extern "C" fn mf_run(
     records: &[u8],
     output: &mut [u8],
 ) -> usize
-    ensures { λ r. ⌜ RunFaces r (now (state .exit)) (now (store .exit)) (now (output .exit)) (now (output .entry)) (runFace (now (map .entry)) (now (store .entry)) (now (image .entry)) (now (state .entry)) (entries (now (records .entry)) (roomFor (length (now (records .entry))) (length (now (output .entry)))))) ⌝ }
+    ensures { λ r. ⌜ RunFacePromise (now (map .entry)) (now (store .entry)) (now (image .entry)) (now (state .entry))
+        (now (records .entry)) (now (output .entry))
+        r (now (state .exit)) (now (store .exit)) (now (output .exit)) ⌝ }
 {
     faces::run_face(map, store, image, state, records, output)
 }

@@ -1,10 +1,11 @@
--- What is proved of a state's bytes. Proved in proofs/Round.antt.
+-- What is proved of a state's bytes. Proved in proofs/: Round and Settled.
 -- Assumes nothing.
 use mathlib.Core.Path.{_≡_}
-use mathlib.Core.Bool.{true}
+use mathlib.Core.Bool.{Bool, true}
 use mathlib.Core.List.{List}
 use Prim.Native.Nat.{ℕ, _<_, _^_}
 use lib.ListN.{length, getD}
+use Rattle.laws.specs.Settled.{Settles}
 use Rattle.rooms.specs.declared.state.State.{State}
 use Rattle.packing.specs.StateBytes.{stateBytes, stateOf, shapeHolds}
 
@@ -29,3 +30,19 @@ pub record Bytes (b : List ℕ) : Type 0 where
 -- 96 bytes that are a state's come back from that state
 abbrev pub BytesBack : Type 0
 BytesBack = (b : List ℕ) → Bytes b → shapeHolds b ≡ true → stateBytes (stateOf b) ≡ b
+
+-- what each call promises of its result r
+abbrev pub PackPromise : State → List ℕ → Type 0
+PackPromise s r = r ≡ stateBytes s
+
+abbrev pub UnpackPromise : List ℕ → State → Type 0
+UnpackPromise b r = r ≡ stateOf b
+
+abbrev pub ShapeHoldsPromise : List ℕ → Bool → Type 0
+ShapeHoldsPromise b r = r ≡ shapeHolds b
+
+-- results that meet the same promise are equal, for each call
+pub record Settled : Type 0 where
+  pub pack : (s : State) → Settles (PackPromise s)
+  pub unpack : (b : List ℕ) → Settles (UnpackPromise b)
+  pub shape-holds : (b : List ℕ) → Settles (ShapeHoldsPromise b)

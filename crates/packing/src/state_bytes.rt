@@ -3,8 +3,9 @@ ghost use mathlib.Core.Path.{_≡_};
 ghost use Prim.Native.Nat.{_+_, _≤_};
 ghost use Rattle.laws.specs.Lists.{every};
 ghost use Rattle.laws.specs.Parts.{part, put};
-ghost use Rattle.packing.specs.StateBytes.{flag, bytesOf, stateBytes, fourAt, stateOf, used, shapeHolds};
+ghost use Rattle.packing.specs.StateBytes.{flag, bytesOf, fourAt, used};
 ghost use Rattle.packing.specs.StateBytes.{whoAt, registersAt, waitingAt, doorAt, latchAt};
+ghost use Rattle.packing.specs.Promises.{PackPromise, UnpackPromise, ShapeHoldsPromise};
 ghost use lib.Dec.{eqb};
 ghost use lib.ListN.{length, drop};
 use entries::four_bytes;
@@ -112,7 +113,7 @@ fn latch_at(bytes: [u8; 96]) -> Latch
 
 // The state that the bytes say. It goes by setters, so that a room without places of its own is zero.
 pub fn unpack(bytes: [u8; 96]) -> State
-    ensures { λ r. ⌜ r ≡ stateOf bytes ⌝ }
+    ensures { λ r. ⌜ UnpackPromise bytes r ⌝ }
 {
     let named = with_who(zero_state(), who_at(bytes));
     let loaded = with_registers(named, registers_at(bytes));
@@ -135,7 +136,7 @@ fn is_zero_behind(bytes: [u8; 96]) -> bool
 }
 
 pub fn shape_holds(bytes: [u8; 96]) -> bool
-    ensures { λ r. ⌜ r ≡ shapeHolds bytes ⌝ }
+    ensures { λ r. ⌜ ShapeHoldsPromise bytes r ⌝ }
 {
     let zero = is_zero_behind(bytes);
     (bytes[8] <= 1) & (bytes[17] <= 1) & (bytes[29] <= 1) & zero
@@ -171,7 +172,7 @@ fn put_eight(bytes: [u8; 96], i: usize, eight: [u8; 8]) -> [u8; 96]
 
 // The bytes of a state.
 pub fn pack(state: State) -> [u8; 96]
-    ensures { λ r. ⌜ r ≡ stateBytes state ⌝ }
+    ensures { λ r. ⌜ PackPromise state r ⌝ }
 {
     let mut b = [0; 96];
     b[0] = state.who.address;

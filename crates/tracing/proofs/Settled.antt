@@ -12,10 +12,10 @@ use Rattle.tracing.specs.Promises.{RunSettled, WhoSettled}
 use Rattle.tracing.specs.declared.runs.Ran.{Ran}
 
 pub run-settled : RunSettled
-run-settled t before q r store stored output written p s = (
-  rw (p .state ∙ sym (s .state), p .ended ∙ sym (s .ended), p .count ∙ sym (s .count)),
-  p .leaves ∙ sym (s .leaves),
-  p .writes ∙ sym (s .writes),
+run-settled map store image state records before q r s t o p k l = (
+  rw (k .state ∙ sym (l .state), k .ended ∙ sym (l .ended), k .count ∙ sym (l .count)),
+  k .leaves ∙ sym (l .leaves),
+  k .writes ∙ sym (l .writes),
 )
 
 pub who-settled : WhoSettled

@@ -27,7 +27,7 @@ use Rattle.tracing.specs.Trace.{whoOf, adrTests, fileTests, fileNumber, 
 use Rattle.tracing.specs.Promises.{FilesNumbered, FilesSettled, OneByteMore}
 
 pub files-settled : FilesSettled
-files-settled map store kept adr = settles (fileNumber map store kept adr)
+files-settled map store image adr = settles (fileNumber map store (length image) adr)
 
 pub files-numbered : FilesNumbered
 unfolding fileNumber checkNumber startNumber firstFailing

@@ -11,16 +11,17 @@ use Rattle.laws.specs.Choice.{if_then_else_}
 use Rattle.laws.specs.Lists.{every, some}
 use Rattle.laws.specs.Settled.{Settles}
 use Rattle.banks.specs.Rules.{checkNumber}
+use Rattle.hearing.specs.declared.rooms.Who.{Who}
 use Rattle.rooms.specs.Rules.{addressHolds}
 use Rattle.rooms.specs.declared.state.State.{State}
 use Rattle.numbers.specs.Numbers.{powerNumber, startNumber}
 use Rattle.numbers.specs.Promises.{GivenBy}
 use Rattle.unit.specs.Step.{startOf}
-use Rattle.entries.specs.Entry.{wholeRecords, isBroken}
+use Rattle.entries.specs.Entry.{entries, wholeRecords, isBroken}
 use Rattle.entries.specs.Promises.{isWhole}
 use Rattle.entries.specs.declared.entry.Entry.{Entry}
 use Rattle.tracing.specs.Trace.{Traced, tracedOf, broken, whoOf, fileTests, fileNumber, closed, traceOf}
-use Rattle.tracing.specs.Run.{turnOf, continued, Runs}
+use Rattle.tracing.specs.Run.{turnOf, continued, roomFor, Runs}
 use Rattle.tracing.specs.declared.runs.Ran.{Ran}
 
 -- ---- one after the other
@@ -115,14 +116,33 @@ abbrev pub OneByteMore : Type 0
 OneByteMore = (map store image adr input : List ℕ)
     → traceOf (take 513 map) (take 4097 store) (take 4097 image) (take 6 adr) input ≡ traceOf map store image adr input
 
+-- ---- what each public call promises of its result r
+
+-- and of the store and the output that are left, where the output was `before`: of the whole records, as many as the
+-- output has room for
+abbrev pub RunPromise : List ℕ → List ℕ → List ℕ → State → List ℕ → List ℕ → Ran → List ℕ → List ℕ → Type 0
+RunPromise map store image s records before r left output =
+    Runs r left output before
+    (tracedOf map image store s (entries records (roomFor (length records) (length before))))
+
+abbrev pub WhoOfPromise : List ℕ → Who → Type 0
+WhoOfPromise adr r = r ≡ whoOf adr
+
+abbrev pub NumberOfFilesPromise : List ℕ → List ℕ → List ℕ → List ℕ → ℕ → Type 0
+NumberOfFilesPromise map store image adr r = r ≡ fileNumber map store (length image) adr
+
 -- ---- results meeting the same promise are equal
 
+-- two results of a run that meet one promise, the stores and the outputs that are left are equal
+abbrev pub SettlesRan : (Ran → List ℕ → List ℕ → Type 0) → Type 0
+SettlesRan promise = (q r : Ran) (s t o p : List ℕ) → promise q s o → promise r t p → (q ≡ r) × (s ≡ t) × (o ≡ p)
+
 abbrev pub RunSettled : Type 0
-RunSettled = (t : Traced) (before : List ℕ) (q r : Ran) (store stored output written : List ℕ)
-    → Runs q store output before t → Runs r stored written before t → (q ≡ r) × (store ≡ stored) × (output ≡ written)
+RunSettled = (map store image : List ℕ) (s : State) (records before : List ℕ)
+    → SettlesRan (RunPromise map store image s records before)
 
 abbrev pub WhoSettled : Type 0
-WhoSettled = (adr : List ℕ) → Settles (λ who. who ≡ whoOf adr)
+WhoSettled = (adr : List ℕ) → Settles (WhoOfPromise adr)
 
 abbrev pub FilesSettled : Type 0
-FilesSettled = (map store : List ℕ) (kept : ℕ) (adr : List ℕ) → Settles (λ n. n ≡ fileNumber map store kept adr)
+FilesSettled = (map store image adr : List ℕ) → Settles (NumberOfFilesPromise map store image adr)

@@ -7,9 +7,8 @@ ghost use Rattle.laws.specs.Outcome.{Gives};
 ghost use Rattle.laws.specs.Parts.{put};
 ghost use Rattle.numbers.specs.Numbers.{powerNumber};
 ghost use Rattle.unit.specs.Run.{outputOf};
-ghost use Rattle.entries.specs.Entry.{entries};
-ghost use Rattle.tracing.specs.Trace.{tracedOf};
-ghost use Rattle.tracing.specs.Run.{turnOf, Begins, Turns, roomFor, Runs};
+ghost use Rattle.tracing.specs.Run.{turnOf, Begins, Turns, roomFor};
+ghost use Rattle.tracing.specs.Promises.{RunPromise};
 use entries::Entry;
 use entries::entry_at;
 use entries::is_broken;
@@ -87,7 +86,8 @@ fn turn(
     output: &mut [u8],
 ) -> Ran
     requires { ⌜ Begins ran (now map) (now store) (now image) (now records) (now output) number ⌝ }
-    ensures { λ r. ⌜ Turns ran r (now (map .entry)) (now (store .entry)) (now (store .exit)) (now (image .entry)) (now (records .entry)) (now (output .entry)) (now (output .exit)) number ⌝ }
+    ensures { λ r. ⌜ Turns ran r (now (map .entry)) (now (store .entry)) (now (store .exit)) (now (image .entry))
+        (now (records .entry)) (now (output .entry)) (now (output .exit)) number ⌝ }
 {
     let count = ran.count;
     let at = 4 * count;
@@ -122,7 +122,8 @@ pub fn run(
     records: &[u8],
     output: &mut [u8],
 ) -> Ran
-    ensures { λ r. ⌜ Runs r (now (store .exit)) (now (output .exit)) (now (output .entry)) (tracedOf (now (map .entry)) (now (image .entry)) (now (store .entry)) state (entries (now (records .entry)) (roomFor (length (now (records .entry))) (length (now (output .entry)))))) ⌝ }
+    ensures { λ r. ⌜ RunPromise (now (map .entry)) (now (store .entry)) (now (image .entry)) state (now (records .entry))
+        (now (output .entry)) r (now (store .exit)) (now (output .exit)) ⌝ }
 {
     let n = room_for(records.len(), output.len());
     let number = numbers::power_number(map, store, image, state);

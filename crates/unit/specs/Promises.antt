@@ -17,15 +17,25 @@ use Rattle.rooms.specs.declared.reply.Stepped.{Stepped}
 use Rattle.numbers.specs.Numbers.{startNumber, powerNumber, stepNumber}
 use Rattle.unit.specs.Step.{startOf, powerOnOf, powerOf, stepOf, frameOf}
 
+-- what each public call promises of its answer r and of the store that is left
+abbrev pub StartPromise : List ℕ → List ℕ → List ℕ → Who → Stepped → List ℕ → Type 0
+StartPromise map store image who r left = Gives r left (startOf map store image who)
+
+abbrev pub PowerOnPromise : List ℕ → List ℕ → List ℕ → State → Stepped → List ℕ → Type 0
+PowerOnPromise map store image s r left = Gives r left (powerOnOf map store image s)
+
+abbrev pub StepPromise : List ℕ → List ℕ → List ℕ → State → Heard → Stepped → List ℕ → Type 0
+StepPromise map store image s heard r left = Gives r left (stepOf map store image s heard)
+
 -- two results that meet one promise have the same answer and leave the same store
-abbrev pub SettlesBoth : Outcome Stepped → Type 0
-SettlesBoth o = (a b : Stepped) (s t : List ℕ) → Gives a s o → Gives b t o → (a ≡ b) × (s ≡ t)
+abbrev pub SettlesBoth : (Stepped → List ℕ → Type 0) → Type 0
+SettlesBoth promise = (a b : Stepped) (s t : List ℕ) → promise a s → promise b t → (a ≡ b) × (s ≡ t)
 
 -- results meeting the same promise are equal
 pub record Settled (map store image : List ℕ) : Type 0 where
-  pub start : (who : Who) → SettlesBoth (startOf map store image who)
-  pub power-on : (s : State) → SettlesBoth (powerOnOf map store image s)
-  pub step : (s : State) (heard : Heard) → SettlesBoth (stepOf map store image s heard)
+  pub start : (who : Who) → SettlesBoth (StartPromise map store image who)
+  pub power-on : (s : State) → SettlesBoth (PowerOnPromise map store image s)
+  pub step : (s : State) (heard : Heard) → SettlesBoth (StepPromise map store image s heard)
 
 -- the number in the reply of an outcome
 abbrev pub numberOf : Outcome Stepped → ℕ

@@ -58,7 +58,8 @@ fn write_at(
     replying: bool,
 ) -> Stepped
     requires { ⌜ placed (now map) (length (now store)) ≡ true ⌝ }
-    ensures { λ r. ⌜ Gives r (now (store .exit)) (written state location byte replying (writeOf (recordsOf (now (map .entry))) (now (store .entry)) (state .door .staged) bank location byte)) ⌝ }
+    ensures { λ r. ⌜ Gives r (now (store .exit)) (written state location byte replying
+        (writeOf (recordsOf (now (map .entry))) (now (store .entry)) (state .door .staged) bank location byte)) ⌝ }
 {
     let door = state.door;
     let staged = door.staged;
@@ -78,7 +79,8 @@ fn write_at(
 // Internal: a READ in a mapped bank.
 fn read_at(map: &[u8], store: &[u8], state: State, bank: u8, location: u8) -> Stepped
     requires { ⌜ placed (now map) (length (now store)) ≡ true ⌝ }
-    ensures { λ r. ⌜ r ≡ readBy state location (readOf (recordsOf (now (map .entry))) (now (store .entry)) (state .latch) bank location) ⌝ }
+    ensures { λ r. ⌜ r ≡ readBy state location
+        (readOf (recordsOf (now (map .entry))) (now (store .entry)) (state .latch) bank location) ⌝ }
 {
     let latch = state.latch;
     let shown = memory::read_byte(map, store, latch, bank, location);
@@ -100,7 +102,8 @@ pub fn act(
     due: Due,
 ) -> Stepped
     requires { ⌜ (placed (now map) (length (now store)) ≡ true) × (length (now image) ≡ length (now store)) ⌝ }
-    ensures { λ r. ⌜ Gives r (now (store .exit)) (done (recordsOf (now (map .entry))) (now (store .entry)) (now (image .entry)) state heard due) ⌝ }
+    ensures { λ r. ⌜ Gives r (now (store .exit))
+        (done (recordsOf (now (map .entry))) (now (store .entry)) (now (image .entry)) state heard due) ⌝ }
 {
     match due {
         Due::Nothing => quiet(state),

@@ -5,7 +5,8 @@ ghost use lib.ListN.{length};
 ghost use Rattle.laws.specs.Outcome.{Gives};
 ghost use Rattle.records.specs.Map.{recordsOf};
 ghost use Rattle.banks.specs.Rules.{placed};
-ghost use Rattle.unit.specs.Step.{frameOf, powerOf, stepOf, powerOnOf, startOf};
+ghost use Rattle.unit.specs.Step.{frameOf, powerOf};
+ghost use Rattle.unit.specs.Promises.{StartPromise, PowerOnPromise, StepPromise};
 use crate::acts::act;
 use crate::acts::hear;
 use frames::Reading;
@@ -28,7 +29,8 @@ use rooms::zero_state;
 // calls this. A reserved frame goes straight to clearing the waiting one.
 pub fn frame_step(map: &[u8], store: &mut [u8], image: &[u8], state: State, heard: Heard) -> Stepped
     requires { ⌜ (placed (now map) (length (now store)) ≡ true) × (length (now image) ≡ length (now store)) ⌝ }
-    ensures { λ r. ⌜ Gives r (now (store .exit)) (frameOf (recordsOf (now (map .entry))) (now (store .entry)) (now (image .entry)) state heard) ⌝ }
+    ensures { λ r. ⌜ Gives r (now (store .exit))
+        (frameOf (recordsOf (now (map .entry))) (now (store .entry)) (now (image .entry)) state heard) ⌝ }
 {
     let Reading::Got(message) = frames::read(heard.frame) else {
         return quiet(hear(state, false));
@@ -43,14 +45,15 @@ pub fn frame_step(map: &[u8], store: &mut [u8], image: &[u8], state: State, hear
 // Internal: a power-on on a map and store that keep the rules.
 pub fn power_step(map: &[u8], store: &mut [u8], image: &[u8], state: State) -> Stepped
     requires { ⌜ (placed (now map) (length (now store)) ≡ true) × (length (now image) ≡ length (now store)) ⌝ }
-    ensures { λ r. ⌜ Gives r (now (store .exit)) (powerOf (recordsOf (now (map .entry))) (now (store .entry)) (now (image .entry)) state) ⌝ }
+    ensures { λ r. ⌜ Gives r (now (store .exit))
+        (powerOf (recordsOf (now (map .entry))) (now (store .entry)) (now (image .entry)) state) ⌝ }
 {
     memory::fill_store(map, store, image, Filling::PowerOn);
     quiet(powered_on(state))
 }
 
 pub fn step(map: &[u8], store: &mut [u8], image: &[u8], state: State, heard: Heard) -> Stepped
-    ensures { λ r. ⌜ Gives r (now (store .exit)) (stepOf (now (map .entry)) (now (store .entry)) (now (image .entry)) state heard) ⌝ }
+    ensures { λ r. ⌜ StepPromise (now (map .entry)) (now (store .entry)) (now (image .entry)) state heard r (now (store .exit)) ⌝ }
 {
     let number = step_number(map, store, image, state, heard);
     if number != 0 {
@@ -61,7 +64,7 @@ pub fn step(map: &[u8], store: &mut [u8], image: &[u8], state: State, heard: Hea
 
 // A later power-on: address and groups stay.
 pub fn power_on(map: &[u8], store: &mut [u8], image: &[u8], state: State) -> Stepped
-    ensures { λ r. ⌜ Gives r (now (store .exit)) (powerOnOf (now (map .entry)) (now (store .entry)) (now (image .entry)) state) ⌝ }
+    ensures { λ r. ⌜ PowerOnPromise (now (map .entry)) (now (store .entry)) (now (image .entry)) state r (now (store .exit)) ⌝ }
 {
     let number = power_number(map, store, image, state);
     if number != 0 {
@@ -72,7 +75,7 @@ pub fn power_on(map: &[u8], store: &mut [u8], image: &[u8], state: State) -> Ste
 
 // Address and groups as given, then as a power-on; a refused start's state is all zeros.
 pub fn start(map: &[u8], store: &mut [u8], image: &[u8], who: Who) -> Stepped
-    ensures { λ r. ⌜ Gives r (now (store .exit)) (startOf (now (map .entry)) (now (store .entry)) (now (image .entry)) who) ⌝ }
+    ensures { λ r. ⌜ StartPromise (now (map .entry)) (now (store .entry)) (now (image .entry)) who r (now (store .exit)) ⌝ }
 {
     let number = start_number(map, store, image, who);
     let zeros = zero_state();
