@@ -5,12 +5,10 @@ use mathlib.Core.Path.{_≡_}
 use mathlib.Core.List.{List, [], _∷_, _++_, map}
 use Prim.Native.Nat.{ℕ}
 use lib.ListN.{length, replicate}
-use Rattle.records.specs.Cases.{row, head, lock, with, benchMap}
+use Rattle.records.specs.Bench.{benchMap}
+pub use Rattle.records.specs.Bench.{benchStore}
+use Rattle.records.specs.Cases.{row, head, lock, with}
 use Rattle.banks.specs.Rules.{checkNumber}
-
--- the store of the bench map
-abbrev pub benchStore : List ℕ
-benchStore = 0x06 ∷ 0xFF ∷ 0x00 ∷ 0x00 ∷ 0x00 ∷ 0x64 ∷ []
 
 -- a store whose first byte is the one at 0x00, and n bytes after it
 abbrev pub stored : ℕ → ℕ → List ℕ

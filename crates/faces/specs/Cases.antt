@@ -6,7 +6,8 @@ use mathlib.Core.List.{List, [], _∷_, _++_}
 use lib.ListN.{set, replicate}
 use Rattle.hearing.specs.Pairs.{heardAt as at}
 use Rattle.hearing.specs.declared.rooms.Heard.{Heard}
-use Rattle.unit.specs.Bench.{benchMap, benchStore, benchImage}
+use Rattle.records.specs.Bench.{benchMap, benchStore, benchImage}
+use Rattle.unit.specs.Bench.{benchHeard, lastHeard}
 use Rattle.entries.specs.declared.entry.Entry.{Entry}
 use Rattle.faces.specs.Answers.{replyWord}
 use Rattle.faces.specs.Answers.{checkAnswer, lookAnswer, readAnswer, writeAnswer, eventAnswer, powerAnswer}
@@ -31,10 +32,9 @@ tells bytes store (h ∷ hs) =
     let f : Faced = frameFace benchMap store benchImage bytes (h .frame) (h .clock) in
     before (replyWord (f .reply)) (tells (f .state) (f .store) hs)
 
+-- the sheet's frames
 abbrev pub p11 : List Heard
-p11 =
-    at 0 0x0BFE15 ∷ at 100 0x0BFE15 ∷ at 200 0xC13102 ∷ at 300 0xC13002 ∷ at 400 0xC12055
-    ∷ at 500 0xC12000 ∷ at 600 0xC12000 ∷ at 700 0xC12001 ∷ at 800 0xC1202C ∷ []
+p11 = benchHeard 0 100 ++ lastHeard ∷ []
 
 -- address 5, groups, DTRs, waiting and its frame and clock, write-enable, staged, latched; then zeros
 abbrev halfBytes : List ℕ

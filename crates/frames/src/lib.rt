@@ -2,6 +2,7 @@
 mod message; // the types
 mod values; // the number and the value of a target, a scheme and a field
 mod kinds; // the table of kinds
+mod places; // what a bit counts for
 mod reader; // from a frame to a message
 mod writer; // from a message to a frame
 

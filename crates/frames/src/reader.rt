@@ -13,20 +13,48 @@ use crate::message::Reading;
 use crate::message::Scheme;
 use crate::message::Schemed;
 use crate::message::Targeted;
+use crate::places::BIT_6;
+use crate::places::BIT_7;
+use crate::places::BIT_8;
+use crate::places::BIT_10;
+use crate::places::BIT_12;
+use crate::places::BIT_13;
+use crate::places::BIT_15;
+use crate::places::BIT_16;
+use crate::places::BIT_17;
+use crate::places::BIT_22;
+use crate::places::BIT_23;
+use crate::places::BITS_1;
+use crate::places::BITS_3;
+use crate::places::BITS_5;
+use crate::places::BITS_6;
+use crate::places::BITS_7;
+use crate::places::BITS_8;
+use crate::places::BITS_10;
+use crate::places::BYTE_BIT_1;
+use crate::places::BYTE_BIT_5;
+use crate::places::BYTE_BIT_6;
+use crate::places::BYTE_BIT_7;
+use crate::places::BYTE_BITS_1;
+use crate::places::BYTE_BITS_2;
+use crate::places::BYTE_BITS_3;
+use crate::places::BYTE_BITS_4;
+use crate::places::BYTE_BITS_5;
+use crate::places::BYTE_BITS_6;
 use crate::values::target_at;
 
 // An odd address byte.
 fn address_of(byte: u8) -> Addressed
     ensures { λ r. ⌜ r ≡ addressOf byte ⌝ }
 {
-    let one = byte / 128 % 2;
-    let two = byte / 64 % 4;
-    let three = byte / 32 % 8;
+    let one = byte / BYTE_BIT_7 % BYTE_BITS_1;
+    let two = byte / BYTE_BIT_6 % BYTE_BITS_2;
+    let three = byte / BYTE_BIT_5 % BYTE_BITS_3;
     if one == 0 {
-        return Addressed::To(Address::Short(byte / 2 % 64));
+        return Addressed::To(Address::Short(byte / BYTE_BIT_1 % BYTE_BITS_6));
     }
     if two == 2 {
-        return Addressed::To(Address::Group(byte / 2 % 32));
+        return Addressed::To(Address::Group(byte / BYTE_BIT_1 % BYTE_BITS_5));
     }
     if byte == 0xFD {
         return Addressed::To(Address::Unaddressed);
@@ -35,7 +63,7 @@ fn address_of(byte: u8) -> Addressed
         return Addressed::To(Address::Broadcast);
     }
     if three == 6 {
-        return Addressed::Special(byte / 2 % 16);
+        return Addressed::Special(byte / BYTE_BIT_1 % BYTE_BITS_4);
     }
     Addressed::Reserved
 }
@@ -43,7 +71,7 @@ fn address_of(byte: u8) -> Addressed
 fn target_of(byte: u8) -> Targeted
     ensures { λ r. ⌜ r ≡ targetOf byte ⌝ }
 {
-    target_at(kind(byte), byte % 32)
+    target_at(kind(byte), byte % BYTE_BITS_5)
 }
 
 pub fn aimed_at(address: Address, targeted: Targeted, opcode: u8) -> Reading
@@ -58,9 +86,9 @@ pub fn aimed_at(address: Address, targeted: Targeted, opcode: u8) -> Reading
 fn read_command(frame: u32) -> Reading
     ensures { λ r. ⌜ r ≡ commandOf frame ⌝ }
 {
-    let instance = (frame / 256 % 256) as u8;
-    let opcode = (frame % 256) as u8;
-    match address_of((frame / 65536 % 256) as u8) {
+    let instance = (frame / BIT_8 % BITS_8) as u8;
+    let opcode = (frame % BITS_8) as u8;
+    match address_of((frame / BIT_16 % BITS_8) as u8) {
         Addressed::To(address) => aimed_at(address, target_of(instance), opcode),
         Addressed::Special(number) => Reading::Got(Message::Special(number, instance, opcode)),
         Addressed::Reserved => Reading::Refused(2),
@@ -93,11 +121,11 @@ fn first_field(scheme: Scheme, frame: u32) -> u8
     ensures { λ r. ⌜ r ≡ firstField scheme frame ⌝ }
 {
     match scheme {
-        Scheme::TypeNumber => (frame / 131072 % 32) as u8,
-        Scheme::ShortType => (frame / 131072 % 64) as u8,
-        Scheme::ShortNumber => (frame / 131072 % 64) as u8,
-        Scheme::GroupType => (frame / 131072 % 32) as u8,
-        Scheme::PrimaryType => (frame / 131072 % 32) as u8,
+        Scheme::TypeNumber => (frame / BIT_17 % BITS_5) as u8,
+        Scheme::ShortType => (frame / BIT_17 % BITS_6) as u8,
+        Scheme::ShortNumber => (frame / BIT_17 % BITS_6) as u8,
+        Scheme::GroupType => (frame / BIT_17 % BITS_5) as u8,
+        Scheme::PrimaryType => (frame / BIT_17 % BITS_5) as u8,
     }
 }
 
@@ -117,12 +145,12 @@ fn field_of(announced: u32, value: u8) -> Fielded
 fn read_power(frame: u32) -> Reading
     ensures { λ r. ⌜ r ≡ powerOf frame ⌝ }
 {
-    let group = (frame / 128 % 32) as u8;
-    let short = (frame % 64) as u8;
-    let Fielded::Is(g) = field_of(frame / 4096 % 2, group) else {
+    let group = (frame / BIT_7 % BITS_5) as u8;
+    let short = (frame % BITS_6) as u8;
+    let Fielded::Is(g) = field_of(frame / BIT_12 % BITS_1, group) else {
         return Reading::Refused(5);
     };
-    let Fielded::Is(s) = field_of(frame / 64 % 2, short) else {
+    let Fielded::Is(s) = field_of(frame / BIT_6 % BITS_1, short) else {
         return Reading::Refused(5);
     };
     Reading::Got(Message::Power(g, s))
@@ -132,9 +160,9 @@ fn read_power(frame: u32) -> Reading
 fn read_other(frame: u32) -> Reading
     ensures { λ r. ⌜ r ≡ otherOf frame ⌝ }
 {
-    let high = frame / 131072 % 128;
-    let low = frame / 8192 % 8;
-    if high == 127 {
+    let high = frame / BIT_17 % BITS_7;
+    let low = frame / BIT_13 % BITS_3;
+    if high == 0x7F {
         if low == 7 {
             return read_power(frame);
         }
@@ -145,9 +173,13 @@ fn read_other(frame: u32) -> Reading
 fn read_event(frame: u32) -> Reading
     ensures { λ r. ⌜ r ≡ eventOf frame ⌝ }
 {
-    let second = (frame / 1024 % 32) as u8;
-    let information = (frame % 1024) as u16;
-    match scheme_of(frame / 8388608 % 2, frame / 4194304 % 2, frame / 32768 % 2) {
+    let second = (frame / BIT_10 % BITS_5) as u8;
+    let information = (frame % BITS_10) as u16;
+    match scheme_of(
+        frame / BIT_23 % BITS_1,
+        frame / BIT_22 % BITS_1,
+        frame / BIT_15 % BITS_1,
+    ) {
         Schemed::By(scheme) => {
             let first = first_field(scheme, frame);
             Reading::Got(Message::Event(scheme, first, second, information))
@@ -160,7 +192,7 @@ pub fn read(frame: u32) -> Reading
     ensures { λ r. ⌜ ReadPromise frame r ⌝ }
 {
     if frame < 16777216 {
-        let b16 = frame / 65536 % 2;
+        let b16 = frame / BIT_16 % BITS_1;
         if b16 == 1 {
             return read_command(frame);
         }

@@ -13,6 +13,16 @@ use crate::message::Message;
 use crate::message::Scheme;
 use crate::message::Target;
 use crate::message::Writing;
+use crate::places::BIT_6;
+use crate::places::BIT_7;
+use crate::places::BIT_8;
+use crate::places::BIT_10;
+use crate::places::BIT_12;
+use crate::places::BIT_15;
+use crate::places::BIT_16;
+use crate::places::BIT_17;
+use crate::places::BIT_22;
+use crate::places::BIT_23;
 use crate::values::field_present;
 use crate::values::field_value;
 use crate::values::target_number;
@@ -65,11 +75,11 @@ fn scheme_bits(scheme: Scheme) -> u32
     ensures small { λ r. ⌜ r < 16777216 ⌝ }
 {
     match scheme {
-        Scheme::TypeNumber => 0x808000,
+        Scheme::TypeNumber => BIT_23 + BIT_15,
         Scheme::ShortType => 0,
-        Scheme::ShortNumber => 0x8000,
-        Scheme::GroupType => 0x800000,
-        Scheme::PrimaryType => 0xC00000,
+        Scheme::ShortNumber => BIT_15,
+        Scheme::GroupType => BIT_23,
+        Scheme::PrimaryType => BIT_23 + BIT_22,
     }
 }
 
@@ -135,7 +145,7 @@ fn bytes_frame(address: u32, instance: u32, opcode: u8) -> u32
     requires { ⌜ (address < 1024) × (instance < 1024) ⌝ }
     ensures { λ r. ⌜ r ≡ bytesFrame address instance opcode ⌝ }
 {
-    address * 65536 + instance * 256 + (opcode as u32)
+    address * BIT_16 + instance * BIT_8 + (opcode as u32)
 }
 
 // Internal: the fixed bits are those of a frame.
@@ -143,14 +153,14 @@ fn event_frame(fixed: u32, first: u8, second: u8, information: u16) -> u32
     requires { ⌜ fixed < 16777216 ⌝ }
     ensures { λ r. ⌜ r ≡ eventFrame fixed first second information ⌝ }
 {
-    fixed + (first as u32) * 131072 + (second as u32) * 1024 + (information as u32)
+    fixed + (first as u32) * BIT_17 + (second as u32) * BIT_10 + (information as u32)
 }
 
 fn power_frame(group: Field, short: Field) -> u32
     ensures { λ r. ⌜ r ≡ powerFrame group short ⌝ }
 {
-    let g = (field_present(group) as u32) * 4096 + (field_value(group) as u32) * 128;
-    let s = (field_present(short) as u32) * 64 + field_value(short) as u32;
+    let g = (field_present(group) as u32) * BIT_12 + (field_value(group) as u32) * BIT_7;
+    let s = (field_present(short) as u32) * BIT_6 + field_value(short) as u32;
     0xFEE000 + g + s
 }
 

@@ -6,6 +6,7 @@ use mathlib.Core.List.{List, [], _∷_, _++_, map}
 use Prim.Native.Nat.{ℕ}
 use lib.ListN.{replicate}
 use Rattle.records.specs.Order.{orderNumber}
+pub use Rattle.records.specs.Bench.{benchMap}
 
 -- a record of the map: bank, first location, width, kind, lockable, zero, store offset
 abbrev pub row : ℕ → ℕ → ℕ → ℕ → ℕ → ℕ → ℕ → ℕ → List ℕ
@@ -17,10 +18,6 @@ head bank = row bank 0x00 1 0 0 0 0 0
 
 abbrev pub lock : ℕ → List ℕ
 lock bank = row bank 0x02 1 2 0 0 0 1
-
--- the bench map
-abbrev pub benchMap : List ℕ
-benchMap = head 2 ++ lock 2 ++ row 2 0x03 4 4 1 0 0 2
 
 -- bank 2 with more values
 abbrev pub with : List ℕ → List ℕ

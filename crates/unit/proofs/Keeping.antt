@@ -107,7 +107,12 @@ module _ (map store image : List ℕ) (s : State) (heard : Heard) (place : place
   opens : Kept true Opens
   unfolding Kept hearing done quiet withWaiting withDoor waitingHolds
   opens =
-      record { address = h .address; waiting = refl; door = open-holds (recordsOf map) store _ refl; latch = h .latch }
+      record {
+        address = h .address;
+        waiting = refl;
+        door = open-holds (recordsOf map) store (acted true Opens .answer .state) refl;
+        latch = h .latch;
+      }
 
   -- the store changes, and behind the shut door nothing is staged
   resets : (dtr0 : ℕ) → Kept true (Resets dtr0)

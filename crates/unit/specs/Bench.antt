@@ -6,26 +6,16 @@ use mathlib.Core.Path.{_≡_}
 use mathlib.Core.Bool.{true}
 use mathlib.Core.List.{List, [], _∷_, _++_, map}
 use Rattle.laws.specs.Outcome.{Outcome}
+pub use Rattle.records.specs.Bench.{benchMap, benchStore, benchImage}
 use Rattle.composing.specs.Bench.{Case, CaseHolds, sheet as framesSheet}
 use Rattle.hearing.specs.Pairs.{heardAt, passed}
+use Rattle.hearing.specs.declared.rooms.Heard.{Heard}
 use Rattle.hearing.specs.declared.rooms.Who.{Who}
 use Rattle.rooms.specs.declared.reply.Stepped.{Stepped}
 use Rattle.unit.specs.Step.{startOf}
 use Rattle.unit.specs.Run.{Input, hears, Run, runOf}
 
--- map, store, image; address 5, no groups
-abbrev pub benchMap : List ℕ
-benchMap =
-    0x02 ∷ 0x00 ∷ 0x01 ∷ 0x00 ∷ 0x00 ∷ 0x00 ∷ 0x00 ∷ 0x00
-    ∷ 0x02 ∷ 0x02 ∷ 0x01 ∷ 0x02 ∷ 0x00 ∷ 0x00 ∷ 0x00 ∷ 0x01
-    ∷ 0x02 ∷ 0x03 ∷ 0x04 ∷ 0x04 ∷ 0x01 ∷ 0x00 ∷ 0x00 ∷ 0x02 ∷ []
-
-abbrev pub benchStore : List ℕ
-benchStore = 0x06 ∷ 0xFF ∷ 0x00 ∷ 0x00 ∷ 0x00 ∷ 0x64 ∷ []
-
-abbrev pub benchImage : List ℕ
-benchImage = 0x06 ∷ 0xFF ∷ 0x00 ∷ 0x00 ∷ 0x00 ∷ 0x32 ∷ []
-
+-- map, store and image are passed on; address 5, no groups
 abbrev pub benchWho : Who
 benchWho = record { address = 5; groups = 0 }
 
@@ -39,13 +29,20 @@ abbrev pub at : ℕ → ℕ → Input
 at clock frame = hears (heardAt clock frame)
 
 -- ENABLE to short 5 at two clocks, and the frames after it but the last; the sheet prints no clocks for these
+abbrev pub benchHeard : ℕ → ℕ → List Heard
+benchHeard first second =
+    heardAt first 0x0BFE15 ∷ heardAt second 0x0BFE15 ∷ heardAt 200 0xC13102 ∷ heardAt 300 0xC13002
+    ∷ heardAt 400 0xC12055 ∷ heardAt 500 0xC12000 ∷ heardAt 600 0xC12000 ∷ heardAt 700 0xC12001 ∷ []
+
+abbrev pub lastHeard : Heard
+lastHeard = heardAt 800 0xC1202C
+
+-- the same as inputs of a run
 abbrev pub enabledBy : ℕ → ℕ → List Input
-enabledBy first second =
-    at first 0x0BFE15 ∷ at second 0x0BFE15 ∷ at 200 0xC13102 ∷ at 300 0xC13002 ∷ at 400 0xC12055
-    ∷ at 500 0xC12000 ∷ at 600 0xC12000 ∷ at 700 0xC12001 ∷ []
+enabledBy first second = map hears (benchHeard first second)
 
 abbrev pub lastFrame : List Input
-lastFrame = at 800 0xC1202C ∷ []
+lastFrame = hears lastHeard ∷ []
 
 -- what is written for a frame: no answer, or the answer
 abbrev pub none : List ℕ

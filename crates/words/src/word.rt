@@ -18,6 +18,24 @@ use frames::scheme_at;
 use frames::target_at;
 use frames::target_number;
 
+// Places: BYTE_n is what byte number n of the word counts for, the low byte being number 0; BYTE is how many numbers a
+// byte can say. The information of an event has two bytes of its own.
+const BYTE: u64 = 256;
+
+const BYTE_1: u64 = 0x100;
+
+const BYTE_2: u64 = 0x10000;
+
+const BYTE_3: u64 = 0x1000000;
+
+const BYTE_4: u64 = 0x100000000;
+
+const BYTE_5: u64 = 0x10000000000;
+
+const BYTE_6: u64 = 0x1000000000000;
+
+const HIGH_BYTE: u16 = 0x100;
+
 fn wide(byte: u8) -> u64
     ensures { λ r. ⌜ r ≡ byte ⌝ }
 {
@@ -28,8 +46,8 @@ fn six_bytes(a: u8, b: u8, c: u8, d: u8, e: u8, f: u8) -> u64
     ensures same { λ r. ⌜ r ≡ sixBytes a b c d e f ⌝ }
     ensures small { λ r. ⌜ r < 2 ^ 48 ⌝ }
 {
-    let high = wide(a) * 1099511627776 + wide(b) * 4294967296 + wide(c) * 16777216;
-    high + wide(d) * 65536 + wide(e) * 256 + wide(f)
+    let high = wide(a) * BYTE_5 + wide(b) * BYTE_4 + wide(c) * BYTE_3;
+    high + wide(d) * BYTE_2 + wide(e) * BYTE_1 + wide(f)
 }
 
 fn message_kind(message: Message) -> u8
@@ -59,8 +77,8 @@ fn message_values(message: Message) -> u64
         ),
         Message::Special(number, x, y) => six_bytes(number, x, y, 0, 0, 0),
         Message::Event(_, first, second, information) => {
-            let high = (information / 256 % 256) as u8;
-            let low = (information % 256) as u8;
+            let high = (information / HIGH_BYTE % HIGH_BYTE) as u8;
+            let low = (information % HIGH_BYTE) as u8;
             six_bytes(first, second, high, low, 0, 0)
         }
         Message::Power(group, short) => six_bytes(
@@ -77,7 +95,7 @@ fn message_values(message: Message) -> u64
 fn message_word(message: Message) -> u64
     ensures { λ r. ⌜ r ≡ wordOf (Reading.Got message) ⌝ }
 {
-    wide(message_kind(message)) * 281474976710656 + message_values(message)
+    wide(message_kind(message)) * BYTE_6 + message_values(message)
 }
 
 pub fn word_of(reading: Reading) -> u64
@@ -101,7 +119,7 @@ fn message_at(kind: u8, a: u8, b: u8, c: u8, d: u8, e: u8) -> Reading
     if kind == 7 {
         return Reading::Got(Message::Power(field_at(a, b), field_at(c, d)));
     }
-    let information = (c as u16) * 256 + d as u16;
+    let information = (c as u16) * HIGH_BYTE + d as u16;
     Reading::Got(Message::Event(scheme_at(kind - 2), a, b, information))
 }
 
@@ -122,11 +140,11 @@ fn matched_with(reading: Reading, word: u64) -> Reading
 pub fn message_of(word: u64) -> Reading
     ensures { λ r. ⌜ MessageOfPromise word r ⌝ }
 {
-    let kind = (word / 281474976710656 % 256) as u8;
-    let a = (word / 1099511627776 % 256) as u8;
-    let b = (word / 4294967296 % 256) as u8;
-    let c = (word / 16777216 % 256) as u8;
-    let d = (word / 65536 % 256) as u8;
-    let e = (word / 256 % 256) as u8;
+    let kind = (word / BYTE_6 % BYTE) as u8;
+    let a = (word / BYTE_5 % BYTE) as u8;
+    let b = (word / BYTE_4 % BYTE) as u8;
+    let c = (word / BYTE_3 % BYTE) as u8;
+    let d = (word / BYTE_2 % BYTE) as u8;
+    let e = (word / BYTE_1 % BYTE) as u8;
     matched_with(message_at(kind, a, b, c, d, e), word)
 }
