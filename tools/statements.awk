@@ -37,7 +37,7 @@ crate == "claims" {
     if (!second || $0 !~ /^  pub +[^ ]+ +:/) next
     field = $2
     sub(/^  pub +[^ ]+ +: */, "")
-    while (sub(/^[(][^()]*[)] *(→ *)?/, "")) continue
+    while (sub(/^([(][^()]*[)]|[{][^{}]*[}]) *(→ *)?/, "")) continue
     name = $1
     if (name ~ /^[A-Z]/ && $0 !~ /→/ && (FILENAME, name) in from) claimed[origin(name)] = claimed[origin(name)] " " field
     next
