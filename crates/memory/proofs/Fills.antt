@@ -47,7 +47,7 @@ pub lock-fresh : (image : List ℕ) (r : Record) → isLock r ≡ true → fresh
 unfolding fresh
 lock-fresh image r e = sym (if-yes (isLock r) (valueOf r image) e refl)
 
-other-fresh : (image : List ℕ) (r : Record) → isLock r ≡ false → fresh image r ≡ valueOf r image
+pub other-fresh : (image : List ℕ) (r : Record) → isLock r ≡ false → fresh image r ≡ valueOf r image
 unfolding fresh
 other-fresh image r e = sym (if-no (isLock r) (0xFF ∷ []) e refl)
 

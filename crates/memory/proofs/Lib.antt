@@ -1,3 +1,4 @@
+pub mod Cases
 pub mod Zeros
 pub mod Reaching
 pub mod Writes
@@ -7,6 +8,7 @@ pub mod Changes
 pub mod LatchRoom
 pub mod Fills
 pub mod Locks
+pub mod Resets
 pub mod Filling
 pub mod ForHistoryStaged
 pub mod ForHistoryFilled

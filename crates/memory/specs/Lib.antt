@@ -4,3 +4,5 @@ pub mod Latched
 pub mod Filled
 pub mod Rooms
 pub mod Promises
+pub mod Reset
+pub mod Cases

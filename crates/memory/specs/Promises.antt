@@ -14,16 +14,17 @@ use Rattle.records.specs.Map.{recordsOf, writable, mapped, locationsEnd, places
 use Rattle.records.specs.Lookup.{holder}
 use Rattle.records.specs.Facts.{Member}
 use Rattle.records.specs.declared.record.Record.{Record}
-use Rattle.records.specs.declared.holder.Found.the-variants.{At}
+use Rattle.records.specs.declared.holder.Found.the-variants.{At, Nothing}
 use Rattle.banks.specs.Rules.{placed, checkNumber}
 use Rattle.banks.specs.Values.{valueOf, putValue, lockByte, padded}
 use Rattle.banks.specs.Facts.{Stands}
 use Rattle.memory.specs.Staged.{noneStaged, unlocked, taken, stagedOf, wrote, writeOf}
-use Rattle.memory.specs.Latched.{noneLatched, latches, shown, readOf}
+use Rattle.memory.specs.Latched.{noneLatched, shown, readOf}
 use Rattle.memory.specs.Filled.{fillingNumber, fillingValues, selects, chosen, fresh, filledOf}
 use Rattle.memory.specs.Rooms.{stagedHolds, latchHolds}
 use Rattle.memory.specs.declared.staged.Staged.{Staged}
 use Rattle.memory.specs.declared.latched.Latch.{Latch}
+use Rattle.memory.specs.declared.latched.Shown.{Shown}
 use Rattle.memory.specs.declared.filled.Filling.{Filling}
 use Rattle.memory.specs.declared.filled.Filling.the-variants.{PowerOn, Reset}
 
@@ -140,12 +141,47 @@ ReadKeepsRule =
     → (l : Latch) → latchHolds (recordsOf map) l ≡ true → (bank location : ℕ)
     → latchHolds (recordsOf map) (readOf (recordsOf map) store l bank location .latch) ≡ true
 
+-- the latch holds this value's bytes: its bank, and its first location in it
+pub record LatchOf (l : Latch) (r : Record) : Type 0 where
+  pub is-held : l .held ≡ true
+  pub same-bank : l .bank ≡ r .bank
+  pub same-first : l .first ≡ r .first
+
+-- what a READ of the first byte of r leaves and answers, whatever was latched: reading a first or single byte ends any latch
+pub record ShowsFirst (store : List ℕ) (r : Record) (a : Shown) : Type 0 where
+  -- a single byte leaves nothing latched
+  pub single : r .width ≤ 1 → a .latch ≡ noneLatched
+  -- a first byte of width 2 or more latches that value's bytes
+  pub latched : 2 ≤ r .width → LatchOf (a .latch) r
+  pub its-bytes : 2 ≤ r .width → take (length (valueOf r store)) (a .latch .bytes) ≡ valueOf r store
+  -- the stored byte is answered
+  pub answers : a ≡ shown (a .latch) (getD (valueOf r store) 0 0)
+
+abbrev pub ReadFirst : Type 0
+ReadFirst =
+    (rs : List Record) (store : List ℕ) (l : Latch) (bank location : ℕ) (r : Record) → holder rs bank location ≡ At r
+    → location ≡ r .first → ShowsFirst store r (readOf rs store l bank location)
+
 -- a later byte of the latched value is answered from the latch, whatever the store holds by then, and the latch stays
 abbrev pub ReadLatched : Type 0
 ReadLatched =
     (rs : List Record) (store : List ℕ) (l : Latch) (bank location : ℕ) (r : Record) → holder rs bank location ≡ At r
-    → r .first < location → latches l r ≡ true
+    → r .first < location → LatchOf l r
     → readOf rs store l bank location ≡ shown l (getD (l .bytes) (location - r .first) 0)
+
+-- a later byte of any other value, one at the same location of another bank too, is answered from the store, and the
+-- latch stays
+abbrev pub ReadOther : Type 0
+ReadOther =
+    (rs : List Record) (store : List ℕ) (l : Latch) (bank location : ℕ) (r : Record) → holder rs bank location ≡ At r
+    → r .first < location → (LatchOf l r → ⊥)
+    → readOf rs store l bank location ≡ shown l (getD (valueOf r store) (location - r .first) 0)
+
+-- no answer if the location is unmapped, and the latch stays
+abbrev pub ReadNone : Type 0
+ReadNone =
+    (rs : List Record) (store : List ℕ) (l : Latch) (bank location : ℕ) → holder rs bank location ≡ Nothing
+    → readOf rs store l bank location ≡ record { latch = l; answered = false; answer = 0 }
 
 abbrev pub NoneLatchedHolds : Type 0
 NoneLatchedHolds = (rs : List Record) → latchHolds rs noneLatched ≡ true

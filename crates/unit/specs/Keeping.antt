@@ -1,9 +1,10 @@
--- What start, power-on and frame steps keep: other values, bytes under no record, and every rule.
--- Paper 01, "Map, store, reset image" and "State and clock". Proved in proofs/Accepted.antt.
+-- What start, power-on and frame steps keep: other values, bytes under no record, and every rule; and what a power-on and
+-- a RESET MEMORY BANK put. Paper 01, "Map, store, reset image", "State and clock" and "Commands obeyed". Proved in
+-- proofs/Accepted.antt and proofs/Resets.antt.
 -- Assumes nothing.
 use Prim.Native.Nat.{ℕ, _<_, _≤_}
 use mathlib.Core.Path.{_≡_}
-use mathlib.Core.Logic.{_⊎_}
+use mathlib.Core.Logic.{_⊎_, _↔_}
 use mathlib.Core.Bool.{Bool, true, false}
 use mathlib.Core.List.{List, [], _∷_}
 use lib.Dec.{ltb}
@@ -16,8 +17,13 @@ use Rattle.records.specs.declared.record.Record.{Record}
 use Rattle.banks.specs.Rules.{isLock}
 use Rattle.banks.specs.Values.{valueOf, lockByte}
 use Rattle.memory.specs.Promises.{ChangesOnly}
+use Rattle.memory.specs.Reset.{StoreReset}
+use Rattle.hearing.specs.Meaning.{meaningOf}
+use Rattle.hearing.specs.Pairs.{completes}
 use Rattle.hearing.specs.declared.rooms.Who.{Who}
 use Rattle.hearing.specs.declared.rooms.Heard.{Heard}
+use Rattle.hearing.specs.declared.meaning.Twice.the-variants.{ResetMemoryBank}
+use Rattle.hearing.specs.declared.meaning.Meaning.the-variants.{NeedsPair}
 use Rattle.rooms.specs.State.{withWho, zeroState}
 use Rattle.rooms.specs.Due.{dueOf}
 use Rattle.rooms.specs.Promises.{StatePowered}
@@ -85,6 +91,24 @@ pub record Powered (map store image : List ℕ) : Type 0 where
 
 abbrev pub CallsPowerOn : Type 0
 CallsPowerOn = (map store image : List ℕ) → Powered map store image
+
+-- ---- RESET MEMORY BANK
+
+-- the frame ends a RESET MEMORY BANK pair for the unit, with this DTR0
+pub record ResetPair (s : State) (heard : Heard) (dtr0 : ℕ) : Type 0 where
+  pub means : meaningOf (s .who) (heard .frame) ≡ NeedsPair ResetMemoryBank
+  pub pair : completes (s .waiting) heard ≡ true
+  pub by-dtr0 : s .registers .dtr0 ≡ dtr0
+
+-- such a frame, and no other, makes a reset due
+abbrev pub ResetDue : Type 0
+ResetDue = (rs : List Record) (s : State) (heard : Heard) (dtr0 : ℕ)
+    → (dueOf rs s heard ≡ Resets dtr0) ↔ ResetPair s heard dtr0
+
+-- accepted, it leaves the store that memory's `StoreReset` tells, half-sentence by half-sentence
+abbrev pub StepResets : Type 0
+StepResets = (map store image : List ℕ) (s : State) (heard : Heard) → stepNumber map store (length image) s heard ≡ 0
+    → (dtr0 : ℕ) → ResetPair s heard dtr0 → StoreReset map store image dtr0 (stepOf map store image s heard .store)
 
 -- ---- the rules
 
