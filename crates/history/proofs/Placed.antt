@@ -217,7 +217,7 @@ module _ (rs : List Record) (who : Who) (v : Record) where
             let lt : q .0 < suc j = omega (arith, q .1) in
             go P Z j (omega arith) (q .0) (q .2) (last-or (q .0) j lt);
         writes = λ j r. P .writes j (omega arith);
-        alone = λ i k l b lo hi q. let y = P .alone i k l b lo hi q in (y .0, omega (arith, y .1), y .2);
+        alone = λ i k l b lo hi q. let y = P .alone i k l b lo hi q in (y .0, omega (arith, y .1), omega (arith, y .2));
         unlocked = λ j r. P .unlocked j (omega arith);
         no-power-on = λ i l r q. keeping-no-power (deedAt rs who h i) (P .since .only i l r) q;
       }
@@ -273,7 +273,8 @@ module _ (rs : List Record) (who : Who) (v : Record) where
         let top : w .place (suc j) < length h = earlier (suc j) r in
         keeps-or (deedAt rs who h i) (w .only i (omega (arith, after-all j (omega arith))) (omega arith))
         (λ k l b q. let x = w .alone i k l b (omega (arith, mono 0 j (omega arith) (omega arith))) (omega arith) q in
-        no′ (x .0) (x .1) (x .2) (lt-or-ge (x .0) (suc j)))
+        let e : i ≡ w .place (x .0) = omega (arith, x .2) in
+        no′ (x .0) (x .1) e (lt-or-ge (x .0) (suc j)))
       where
         no′ : (y : ℕ) → y < v .width → i ≡ w .place y → (y < suc j) ⊎ (suc j ≤ y) → ⊥
         no′ y l e (inl z) = omega (arith, mono y j (omega arith) (omega arith))

@@ -49,10 +49,11 @@ module _ (rs : List Record) (who : Who) (image : List ℕ) (v : Record) where
     where
       go : (k : ℕ) × (k < v .width) × (j ≡ w .place k) → suc j ≡ length h
       go a =
+          let p : j ≡ w .place (a .0) = omega (arith, a .2) in
           let s : deedAt rs who h j ≡ puts (v .bank) (v .first + a .0) (getD bs (a .0) 0) =
-          rw (a .2) (w .writes (a .0) (a .1)) in
+          rw p (w .writes (a .0) (a .1)) in
           let t : end ≡ v .first + a .0 = cc in
-          omega (arith, w .ending (a .0) (omega (arith, wide)), a .2)
+          omega (arith, w .ending (a .0) (omega (arith, wide)))
 
   pub none-inside : (wide : 1 ≤ v .width) (h : List Input) (bs : List ℕ) (w : WritingAt rs who v bs h) (j : ℕ)
       → w .place 0 ≤ j → suc j < length h → PutsNone rs who image v h j

@@ -67,11 +67,9 @@ module _ (rs : List Record) (who : Who) (image left : List ℕ) (v : Record) (F 
   put-value : {h : List Input} {bs : List ℕ} → Put rs who image v h bs → val h ≡ bs
   unfolding value valueBy deedAfter
   put-value (by-writing {h = h} {bytes = bs} w) = value-written h bs (written w .0) (written w .1)
-  put-value (by-reset {x = x} {h = h} r) = rw (
-    r .pair,
-    selects-of (r .dtr0) (v .bank) (r .selected),
-    eq-eqb (lock rs who h (v .bank)) 0x55 (r .unlocked),
-  )
+  put-value (by-reset {x = x} {h = h} r) =
+      let u : lock rs who h (v .bank) ≡ 0x55 = omega (arith, r .unlocked) in
+      rw (r .pair, selects-of (r .dtr0) (v .bank) (r .selected), eq-eqb (lock rs who h (v .bank)) 0x55 u)
   put-value (by-power-on e) = rw (eq-eqb (v .kind) 2 e)
 
   -- ---- an input that puts none
