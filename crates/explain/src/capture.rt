@@ -7,6 +7,7 @@ use entries::is_broken;
 use hearing::Who;
 use libc::STDIN_FILENO;
 use rooms::State;
+use telling::Step;
 use telling::say_step;
 use telling::say_who;
 use telling::see;
@@ -22,7 +23,8 @@ struct Flow {
 }
 
 // The width of the value whose bytes are staged.
-fn staged_width(map: &[u8], store: &[u8], state: State) -> u8 {
+fn staged_width(map: &[u8], store: &[u8], step: Step) -> u8 {
+    let state = step.state;
     let door = state.door;
     let staged = door.staged;
     let value = looks::look_at(map, store, staged.bank, staged.first);
@@ -35,17 +37,37 @@ fn show_step(
     seen: &[u8],
     store: &[u8],
     record: &[u8; 8],
-    reply: [u8; 4],
     was: State,
-    is: State,
+    step: Step,
 ) -> bool {
-    let width = staged_width(map, store, is);
+    let width = staged_width(map, store, step);
     let same = check::same(seen, store);
-    let written = print(say_step(record, reply, was, is, width, same));
+    let written = print(say_step(Line::new(), record, was, step, width, same));
     if same {
         return written;
     }
-    written & show_values(map, seen, store, false, 21)
+    written && show_values(map, seen, store, false, 21)
+}
+
+fn take_step(map: &[u8], store: &mut [u8], image: &[u8], was: State, record: &[u8; 8]) -> Step {
+    let mut reply = [0u8; 4];
+    let ran = tracing::run(map, store, image, was, record, &mut reply);
+    let is = ran.state;
+    Step {
+        state: is,
+        answered: reply[1] == 1,
+        answer: reply[2],
+    }
+}
+
+fn flow_after(step: Step, written: bool) -> Flow {
+    let state = step.state;
+    Flow {
+        state: state,
+        written: written,
+        goes_on: written,
+        whole: true,
+    }
 }
 
 // A record of known kind: its step, shown.
@@ -57,21 +79,23 @@ fn show_record(
     was: State,
     record: &[u8; 8],
 ) -> Flow {
-    let mut reply = [0u8; 4];
-    let ran = tracing::run(map, store, image, was, record, &mut reply);
-    let is = ran.state;
-    let written = show_step(map, seen, store, record, reply, was, is);
+    let step = take_step(map, store, image, was, record);
+    let written = show_step(map, seen, store, record, was, step);
     see(seen, store);
-    Flow {
-        state: is,
-        written: written,
-        goes_on: written,
-        whole: true,
-    }
+    flow_after(step, written)
 }
 
 fn is_known(record: &[u8; 8]) -> bool {
     !is_broken(entry_at(record, 0))
+}
+
+fn flow_at_end(state: State, whole: bool) -> Flow {
+    Flow {
+        state: state,
+        written: true,
+        goes_on: false,
+        whole: whole,
+    }
 }
 
 fn show_next(map: &[u8], store: &mut [u8], seen: &mut [u8], image: &[u8], state: State) -> Flow {
@@ -80,12 +104,7 @@ fn show_next(map: &[u8], store: &mut [u8], seen: &mut [u8], image: &[u8], state:
     if (n == 8) & is_known(&record) {
         return show_record(map, store, seen, image, state, &record);
     }
-    Flow {
-        state: state,
-        written: true,
-        goes_on: false,
-        whole: n == 0,
-    }
+    flow_at_end(state, n == 0)
 }
 
 // Behind a capture that is whole, the values that the file has, and those that are there in the end. Answers whether all
@@ -93,7 +112,7 @@ fn show_next(map: &[u8], store: &mut [u8], seen: &mut [u8], image: &[u8], state:
 fn show_ends(map: &[u8], seen: &mut [u8], store: &[u8], written: bool, whole: bool) -> bool {
     if written & whole {
         let n = read_file(b"unit.sto", seen);
-        return print(Line::new()) & show_values(map, &seen[..n], store, true, 0);
+        return print(Line::new()) && show_values(map, &seen[..n], store, true, 0);
     }
     written
 }
@@ -125,15 +144,20 @@ fn show_records(
 // Who the unit is, and what the start changed. Answers whether all of it is written.
 fn show_start(map: &[u8], seen: &[u8], store: &[u8], who: Who) -> bool {
     let written = print(say_who(Line::new().column(21).add(b"start"), who));
-    written & show_values(map, seen, store, false, 21)
+    written && show_values(map, seen, store, false, 21)
+}
+
+fn begin(map: &[u8], store: &mut [u8], image: &[u8], who: Who) -> State {
+    let started = unit::start(map, store, image, who);
+    let state = started.state;
+    state
 }
 
 // Answers whether all is written.
 fn show_unit(map: &[u8], store: &mut [u8], seen: &mut [u8], image: &[u8], who: Who) -> bool {
-    let started = unit::start(map, store, image, who);
+    let state = begin(map, store, image, who);
     let begun = show_start(map, seen, store, who);
     see(seen, store);
-    let state = started.state;
     show_records(map, store, seen, image, state, begun)
 }
 

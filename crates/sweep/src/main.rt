@@ -6,6 +6,8 @@ use frames::Address;
 use frames::Message;
 use frames::Reading;
 use frames::Scheme;
+use libc::STDERR_FILENO;
+use libc::STDOUT_FILENO;
 
 fn address_class(address: Address) -> usize
     ensures same { λ r. ⌜ r ≡ addressClass address ⌝ }
@@ -93,30 +95,45 @@ fn sweep(counts: &mut [u64; 16]) -> u64 {
     checksum
 }
 
-fn write_line(name: &[u8], number: u64) {
-    io::write_all(1, name);
-    io::write_all(1, b" ");
-    io::print_decimal(1, number);
-    io::write_all(1, b"\n");
+// A line more, where all before it are written. Answers whether this one is too.
+fn and_line(written: bool, name: &[u8], number: u64) -> bool {
+    written
+        && io::write_all(STDOUT_FILENO, name)
+        && io::write_all(STDOUT_FILENO, b" ")
+        && io::print_decimal(STDOUT_FILENO, number)
+        && io::write_all(STDOUT_FILENO, b"\n")
 }
 
+fn write_commands(counts: &[u64; 16]) -> bool {
+    let short = and_line(true, b"short", counts[0]);
+    let group = and_line(short, b"group", counts[1]);
+    let unaddressed = and_line(group, b"unaddressed", counts[2]);
+    let broadcast = and_line(unaddressed, b"broadcast", counts[3]);
+    let special = and_line(broadcast, b"special", counts[4]);
+    let address = and_line(special, b"reserved-address", counts[5]);
+    and_line(address, b"reserved-instance", counts[6])
+}
+
+fn write_events(written: bool, counts: &[u64; 16]) -> bool {
+    let first = and_line(written, b"event-0", counts[7]);
+    let second = and_line(first, b"event-1", counts[8]);
+    let third = and_line(second, b"event-2", counts[9]);
+    let fourth = and_line(third, b"event-3", counts[10]);
+    let fifth = and_line(fourth, b"event-4", counts[11]);
+    let power = and_line(fifth, b"power", counts[12]);
+    let malformed = and_line(power, b"malformed-power", counts[13]);
+    and_line(malformed, b"reserved-event", counts[14])
+}
+
+// A program has no status of its own to end with: what it could not do it says on standard error.
 fn main() {
     let mut counts: [u64; 16] = [0; 16];
     let checksum = sweep(&mut counts);
-    write_line(b"short", counts[0]);
-    write_line(b"group", counts[1]);
-    write_line(b"unaddressed", counts[2]);
-    write_line(b"broadcast", counts[3]);
-    write_line(b"special", counts[4]);
-    write_line(b"reserved-address", counts[5]);
-    write_line(b"reserved-instance", counts[6]);
-    write_line(b"event-0", counts[7]);
-    write_line(b"event-1", counts[8]);
-    write_line(b"event-2", counts[9]);
-    write_line(b"event-3", counts[10]);
-    write_line(b"event-4", counts[11]);
-    write_line(b"power", counts[12]);
-    write_line(b"malformed-power", counts[13]);
-    write_line(b"reserved-event", counts[14]);
-    write_line(b"checksum", checksum);
+    let written = write_events(write_commands(&counts), &counts);
+    if !and_line(written, b"checksum", checksum) {
+        io::write_all(
+            STDERR_FILENO,
+            b"sweep: standard output cannot be written: the rest is lost\n",
+        );
+    }
 }

@@ -2,9 +2,11 @@
 mod column; // what it did has a column of its own
 mod changes; // room by room
 mod told; // a record, and a value
+mod seen; // the store, a step behind
 
 pub use changes::say_who;
+pub use seen::see;
+pub use told::Step;
 pub use told::say_change;
 pub use told::say_same;
 pub use told::say_step;
-pub use told::see;

@@ -13,10 +13,19 @@ use text::Line;
 use text::say_frame;
 use text::say_value;
 
+// What a record came to: the state after it, and the answer, if there is one.
+pub struct Step {
+    pub state: State,
+    pub answered: bool,
+    pub answer: u8,
+}
+
 // The clock of a record, with which its line begins.
-fn say_clock(record: &[u8; 8]) -> Line {
+fn say_clock(line: Line, record: &[u8; 8]) -> Line
+    ensures { λ r. ⌜ line .length ≤ r .length ⌝ }
+{
     let clock = four_bytes(record[0], record[1], record[2], record[3]);
-    Line::new().aligned(clock).add(b" ms  ")
+    line.aligned(clock).add(b" ms  ")
 }
 
 // Who the frame is for, where it is not this unit, and what it asks, where that is nothing.
@@ -49,19 +58,20 @@ fn say_entry(line: Line, who: Who, entry: Entry) -> Line
     }
 }
 
-// The answer that the run wrote, if there is one.
-fn say_answer(line: Line, reply: [u8; 4]) -> Line
+fn say_answer(line: Line, answered: bool, answer: u8) -> Line
     ensures { λ r. ⌜ line .length ≤ r .length ⌝ }
 {
-    if reply[1] == 1 {
-        return tell(line, b"answered ").hex(reply[2]);
+    if answered {
+        return tell(line, b"answered ").hex(answer);
     }
     line
 }
 
-fn say_record(record: &[u8; 8], who: Who, reply: [u8; 4]) -> Line {
+fn say_record(line: Line, record: &[u8; 8], who: Who) -> Line
+    ensures { λ r. ⌜ line .length ≤ r .length ⌝ }
+{
     let entry = entry_at(record, 0);
-    say_answer(say_entry(say_clock(record), who, entry), reply)
+    say_entry(say_clock(line, record), who, entry)
 }
 
 // The frame, with the kind above it: a power-on's is no frame.
@@ -69,28 +79,30 @@ fn frame_of(record: &[u8; 8]) -> u32 {
     four_bytes(record[4], record[5], record[6], record[7])
 }
 
-// A record, what was answered, and what it did.
-pub fn say_step(record: &[u8; 8], reply: [u8; 4], was: State, is: State, width: u8, same: bool) -> Line {
-    let line = say_record(record, was.who, reply);
-    say_changes(line, was, is, frame_of(record), width, same)
+// A record, what was answered, and what it did to a unit in that state: by its step, the width of the value whose bytes
+// are staged then, and whether the store is the same.
+pub fn say_step(line: Line, record: &[u8; 8], was: State, step: Step, width: u8, same: bool) -> Line
+    ensures { λ r. ⌜ line .length ≤ r .length ⌝ }
+{
+    let is = step.state;
+    let said = say_record(line, record, was.who);
+    let answered = say_answer(said, step.answered, step.answer);
+    say_changes(answered, was, is, frame_of(record), width, same)
 }
 
 // A value that is the same now.
-pub fn say_same(column: usize, r: Record, bytes: &[u8]) -> Line {
-    say_value(Line::new().column(column), r.bank, r.first, bytes).add(b" unchanged")
+pub fn say_same(line: Line, value: Record, bytes: &[u8]) -> Line
+    ensures { λ r. ⌜ line .length ≤ r .length ⌝ }
+{
+    say_value(line, value.bank, value.first, bytes).add(b" unchanged")
 }
 
 // A value that is another one now.
-pub fn say_change(column: usize, r: Record, before: &[u8], after: &[u8]) -> Line {
-    let line = say_value(Line::new().column(column), r.bank, r.first, before);
-    line.add(b" before, ").bytes(after).add(b" after")
-}
-
-// What was seen of the store becomes what it is.
-pub fn see(seen: &mut [u8], store: &[u8]) {
-    let mut i = 0;
-    while i < seen.len() && i < store.len() {
-        seen[i] = store[i];
-        i += 1;
-    }
+pub fn say_change(line: Line, value: Record, before: &[u8], after: &[u8]) -> Line
+    ensures { λ r. ⌜ line .length ≤ r .length ⌝ }
+{
+    say_value(line, value.bank, value.first, before)
+        .add(b" before, ")
+        .bytes(after)
+        .add(b" after")
 }
