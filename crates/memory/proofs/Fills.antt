@@ -45,7 +45,7 @@ chosen-writable rs store (Reset dtr0) r e = search (and-left)
 -- a lock byte becomes 0xFF, another value takes the reset image
 pub lock-fresh : (image : List ℕ) (r : Record) → isLock r ≡ true → fresh image r ≡ 0xFF ∷ []
 unfolding fresh
-lock-fresh image r e = sym (if-yes (isLock r) (valueOf r image) e refl)
+lock-fresh image r e = sym (if-yes (isLock r) (valueOf r image) {x = 0xFF ∷ []} {z = 0xFF ∷ []} e refl)
 
 pub other-fresh : (image : List ℕ) (r : Record) → isLock r ≡ false → fresh image r ≡ valueOf r image
 unfolding fresh
