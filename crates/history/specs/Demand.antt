@@ -50,7 +50,8 @@ module _ {S : Type 0} (machine : Machine S) (start : Start) where
         → ((j : ℕ) → i ≤ j → j < length h → PutsNone (recordsOf (start .map)) (start .who) (start .image) v h j)
         → bytesOf v h ≡ bytesOf v (past h i)
 
--- of any machine: where the first two lines hold of a value at every accepted point, all of them do
+-- of any machine: where the first two lines hold of a value at every accepted point, all of them do. Proved in
+-- proofs/Follow.antt
 abbrev pub OthersFollow : {S : Type 0} → Machine S → Type 0
 OthersFollow machine = (start : Start) (v : Record) → 1 ≤ v .width
     → ((h : List Input) → Accepted machine start h → Value machine start v h (bytesOf machine start v h))
