@@ -9,6 +9,7 @@ pub mod LatchRoom
 pub mod Fills
 pub mod Locks
 pub mod Resets
+pub mod ResetSettled
 pub mod Filling
 pub mod ForHistoryStaged
 pub mod ForHistoryFilled

@@ -1,11 +1,12 @@
 -- What RESET MEMORY BANK leaves of the store, in numbers: half-sentence by half-sentence, without the tests by which the
--- definition chooses. Paper 01, "Commands obeyed". Proved in proofs/Resets.antt.
+-- definition chooses. Paper 01, "Commands obeyed". Proved in proofs/Resets.antt and proofs/ResetSettled.antt.
 -- Assumes nothing.
 use mathlib.Core.Path.{_≡_}
 use mathlib.Core.Logic.{_⊎_}
 use mathlib.Core.List.{List}
 use Prim.Native.Nat.{ℕ, _≤_, _<_}
 use lib.ListN.{length, getD}
+use Rattle.laws.specs.Settled.{Settles}
 use Rattle.records.specs.Map.{recordsOf, placesEnd}
 use Rattle.records.specs.Facts.{Member}
 use Rattle.records.specs.declared.record.Record.{Record}
@@ -51,3 +52,9 @@ abbrev pub FillResets : Type 0
 FillResets =
     (map store image : List ℕ) → Stands map store (length image) → (dtr0 : ℕ)
     → StoreReset map store image dtr0 (filledOf (recordsOf map) store image (Reset dtr0))
+
+-- and this is all that is to be said: two stores that it tells are the same
+abbrev pub ResetSettled : Type 0
+ResetSettled =
+    (map store image : List ℕ) → Stands map store (length image) → (dtr0 : ℕ)
+    → Settles (λ (after : List ℕ). StoreReset map store image dtr0 after)
