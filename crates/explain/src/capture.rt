@@ -10,7 +10,7 @@ use rooms::State;
 use telling::Step;
 use telling::say_step;
 use telling::say_who;
-use telling::see;
+use telling::seen_of;
 use text::Line;
 
 // Between two records: the state, whether all that was due is written, whether to read on, and whether the capture ended
@@ -41,7 +41,7 @@ fn show_step(
     step: Step,
 ) -> bool {
     let width = staged_width(map, store, step);
-    let same = check::same(seen, store);
+    let same = check::same(seen, &seen_of(store));
     let written = print(say_step(Line::new(), record, was, step, width, same));
     if same {
         return written;
@@ -71,18 +71,10 @@ fn flow_after(step: Step, written: bool) -> Flow {
 }
 
 // A record of known kind: its step, shown.
-fn show_record(
-    map: &[u8],
-    store: &mut [u8],
-    seen: &mut [u8],
-    image: &[u8],
-    was: State,
-    record: &[u8; 8],
-) -> Flow {
+fn show_record(map: &[u8], store: &mut [u8], image: &[u8], was: State, record: &[u8; 8]) -> Flow {
+    let seen = seen_of(store);
     let step = take_step(map, store, image, was, record);
-    let written = show_step(map, seen, store, record, was, step);
-    see(seen, store);
-    flow_after(step, written)
+    flow_after(step, show_step(map, &seen, store, record, was, step))
 }
 
 fn is_known(record: &[u8; 8]) -> bool {
@@ -98,35 +90,29 @@ fn flow_at_end(state: State, whole: bool) -> Flow {
     }
 }
 
-fn show_next(map: &[u8], store: &mut [u8], seen: &mut [u8], image: &[u8], state: State) -> Flow {
+fn show_next(map: &[u8], store: &mut [u8], image: &[u8], state: State) -> Flow {
     let mut record = [0u8; 8];
     let n = io::read_full(STDIN_FILENO, &mut record);
     if (n == 8) & is_known(&record) {
-        return show_record(map, store, seen, image, state, &record);
+        return show_record(map, store, image, state, &record);
     }
     flow_at_end(state, n == 0)
 }
 
 // Behind a capture that is whole, the values that the file has, and those that are there in the end. Answers whether all
 // is written.
-fn show_ends(map: &[u8], seen: &mut [u8], store: &[u8], written: bool, whole: bool) -> bool {
+fn show_ends(map: &[u8], store: &[u8], written: bool, whole: bool) -> bool {
     if written & whole {
-        let n = read_file(b"unit.sto", seen);
-        return print(Line::new()) && show_values(map, &seen[..n], store, true, 0);
+        let mut first = [0u8; 4096];
+        read_file(b"unit.sto", &mut first);
+        return print(Line::new()) && show_values(map, &first, store, true, 0);
     }
     written
 }
 
 // Answers whether all is written. A proved loop has to end, and nothing says that the input does: it counts its turns
 // down from a number that no run uses up.
-fn show_records(
-    map: &[u8],
-    store: &mut [u8],
-    seen: &mut [u8],
-    image: &[u8],
-    state: State,
-    begun: bool,
-) -> bool {
+fn show_records(map: &[u8], store: &mut [u8], image: &[u8], state: State, begun: bool) -> bool {
     let mut flow = Flow {
         state: state,
         written: begun,
@@ -135,10 +121,10 @@ fn show_records(
     };
     let mut turns = u64::MAX;
     while turns > 0 && flow.goes_on {
-        flow = show_next(map, store, seen, image, flow.state);
+        flow = show_next(map, store, image, flow.state);
         turns -= 1;
     }
-    show_ends(map, seen, store, flow.written, flow.whole)
+    show_ends(map, store, flow.written, flow.whole)
 }
 
 // Who the unit is, and what the start changed. Answers whether all of it is written.
@@ -154,28 +140,18 @@ fn begin(map: &[u8], store: &mut [u8], image: &[u8], who: Who) -> State {
 }
 
 // Answers whether all is written.
-fn show_unit(map: &[u8], store: &mut [u8], seen: &mut [u8], image: &[u8], who: Who) -> bool {
+fn show_unit(map: &[u8], store: &mut [u8], image: &[u8], who: Who) -> bool {
+    let seen = seen_of(store);
     let state = begin(map, store, image, who);
-    let begun = show_start(map, seen, store, who);
-    see(seen, store);
-    show_records(map, store, seen, image, state, begun)
+    let begun = show_start(map, &seen, store, who);
+    show_records(map, store, image, state, begun)
 }
 
 // Nothing of a unit whose start is refused. Answers whether all is written.
-fn show_files(map: &[u8], store: &mut [u8], seen: &mut [u8], image: &[u8], adr: &[u8]) -> bool {
+pub fn show(map: &[u8], store: &mut [u8], image: &[u8], adr: &[u8]) -> bool {
     if tracing::number_of_files(map, store, image, adr) != 0 {
         return true;
     }
     let who = tracing::who_of(adr);
-    show_unit(map, store, seen, image, who)
-}
-
-// The store is there twice: what was seen of it is a step behind. A room has a byte more than the limit, so that a longer
-// file is seen to be longer. Answers whether all is written.
-pub fn show(map: &[u8], image: &[u8], adr: &[u8]) -> bool {
-    let mut store = [0u8; 4097];
-    let mut seen = [0u8; 4097];
-    let n = read_file(b"unit.sto", &mut store);
-    let m = read_file(b"unit.sto", &mut seen);
-    show_files(map, &mut store[..n], &mut seen[..m], image, adr)
+    show_unit(map, store, image, who)
 }

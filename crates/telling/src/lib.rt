@@ -2,10 +2,10 @@
 mod column; // what it did has a column of its own
 mod changes; // room by room
 mod told; // a record, and a value
-mod seen; // the store, a step behind
+mod seen; // the store as it was
 
 pub use changes::say_who;
-pub use seen::see;
+pub use seen::seen_of;
 pub use told::Step;
 pub use told::say_change;
 pub use told::say_same;

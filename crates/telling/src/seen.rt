@@ -1,8 +1,10 @@
-// The store as it was seen last, a step behind what it is.
+// The store as it was seen, to be held against what it is a step later.
+ghost use Prim.Native.Nat.{_≤_};
+ghost use mathlib.Core.Path.{_≡_};
+ghost use lib.ListN.{length};
 ghost use Rattle.telling.specs.Seen.{Seen};
 
-// What was seen of the store becomes what it is.
-pub fn see(seen: &mut [u8], store: &[u8])
+fn see(seen: &mut [u8], store: &[u8])
     ensures { λ _. ⌜ Seen (now (seen .exit)) (now (store .entry)) ⌝ }
 {
     let mut i = 0;
@@ -10,4 +12,14 @@ pub fn see(seen: &mut [u8], store: &[u8])
         seen[i] = store[i];
         i += 1;
     }
+}
+
+// The store, and zeros behind it.
+pub fn seen_of(store: &[u8]) -> [u8; 4096]
+    ensures long { λ r. ⌜ 4096 ≡ length r ⌝ }
+    ensures same { λ r. ⌜ Seen r (now (store .entry)) ⌝ }
+{
+    let mut seen = [0u8; 4096];
+    see(&mut seen, store);
+    seen
 }

@@ -7,28 +7,19 @@ use Rattle.explain.proofs.capture.show_records.Statement.{statement}
 use Rattle.explain.proofs.capture.show_records.Tie as tie
 
 abbrev Inv-loop : tie.InvT-loop
-Inv-loop map store₀ seen₀ image begun flow₀ turns₀ store seen flow turns =
-    (length store ≡ length store₀) × (length seen ≡ length seen₀)
+Inv-loop map store₀ image begun flow₀ turns₀ store flow turns = length store ≡ length store₀
 
 abbrev μ-loop : tie.MeasureT-loop
-μ-loop map store₀ seen₀ image begun flow₀ turns₀ store seen flow turns = turns
+μ-loop map store₀ image begun flow₀ turns₀ store flow turns = turns
 
 loop-holds : tie.Need-loop-holds Inv-loop μ-loop
-loop-holds c = (refl, refl)
+loop-holds c = refl
 
 loop-again : tie.Need-loop-again Inv-loop μ-loop
-loop-again c =
-    let shown = c .before .before .before .before in
-    let begun = shown .before .before .before .before .before .loop .inv in
-    (shown .show-next .kept .1 .0 ∙ begun .0, shown .show-next .kept .1 .1 .0 ∙ begun .1)
+loop-again c = c .before .before .show-next .kept .1 .0 ∙ c .before .before .before .before .before .before .loop .inv
 
 same-length : tie.Need-same-length Inv-loop μ-loop
-same-length c = c .before .before .before .before .before .before .loop .inv .0
-
-same-length-2 : tie.Need-same-length-2 Inv-loop μ-loop
-same-length-2 c =
-    let ended = c .before .before in
-    ended .show-ends .kept .1 .0 ∙ ended .before .before .before .before .loop .inv .1
+same-length c = c .before .before .before .loop .inv
 
 pub show-records-spec : {M : Type 1} → statement M
 show-records-spec =
@@ -43,5 +34,4 @@ show-records-spec =
     loop-again
     (λ c κs. search needs)
     same-length
-    same-length-2
     (λ c. search needs))

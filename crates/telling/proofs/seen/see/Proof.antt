@@ -31,13 +31,15 @@ same-length : tie.Need-same-length Inv-loop μ-loop
 same-length c = c .before .before .loop .inv .0
 
 returns : tie.Need-returns Inv-loop μ-loop
-returns c e = seen-all (c .before .before .loop .inv .1) e (ltb-false _ _ (c .if1 .left))
+returns c room =
+    seen-all (c .before .before .loop .inv .1) (ltb-false _ _ (c .if1 .left))
 
 same-length-2 : tie.Need-same-length-2 Inv-loop μ-loop
 same-length-2 c = c .before .loop .inv .0
 
 returns-2 : tie.Need-returns-2 Inv-loop μ-loop
-returns-2 c e = seen-all (c .before .loop .inv .1) e (omega (arith, e))
+returns-2 c room =
+    seen-all (c .before .loop .inv .1) (omega (arith, room))
 
 pub see-spec : {M : Type 1} → statement M
 see-spec =
