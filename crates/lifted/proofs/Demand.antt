@@ -55,6 +55,8 @@ module _ {S T : Type 0} (m : Machine S) (n : Machine T) (L : Leads m n) where
         value = rw (left, here) (W .value);
         one = λ bs r. here ∙ W .one bs (rw left at r);
         complete = λ bs w. here ∙ W .complete bs w;
+        cut-short = λ bs w i lo hi. same-past start v h i A ∙ W .cut-short bs w i lo hi
+            ∙ sym (same-past start v h (w .place 0) A);
         cut = λ x B no. same start v (x ∷ h) B ∙ W .cut x (L .accepts start (x ∷ h) B) no ∙ sym here;
         unchanged = λ i l no. here ∙ W .unchanged i l no ∙ sym (same-past start v h i A);
       }
