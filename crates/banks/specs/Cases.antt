@@ -14,6 +14,10 @@ use Rattle.banks.specs.Rules.{checkNumber}
 abbrev pub stored : ℕ → ℕ → List ℕ
 stored byte n = byte ∷ replicate n 0
 
+-- bank 2 with nothing behind its lock byte, and bank 3 with a value at 0xFE; their bytes at 0x00 are at places 0 and 2
+abbrev pub twoBanks : List ℕ
+twoBanks = head 2 ++ lock 2 ++ row 3 0x00 1 0 0 0 0 2 ++ row 3 0x02 1 2 0 0 0 3 ++ row 3 0xFE 1 4 0 0 0 4
+
 pub record CheckCase : Type 0 where
   pub records : List ℕ
   pub store : List ℕ
@@ -58,6 +62,9 @@ checkCases =
     ∷ checked (head 2 ++ lock 2) (stored 255 1) 11
     ∷ checked benchMap (stored 5 5) 11
     ∷ checked benchMap (stored 6 5) 0
+    -- 11: two banks, each byte against the highest location of its own bank; and the two bytes exchanged
+    ∷ checked twoBanks (3 ∷ 0 ∷ stored 254 2) 0
+    ∷ checked twoBanks (254 ∷ 0 ∷ stored 3 2) 11
     -- 11: the lock byte, and bank 0
     ∷ checked (head 2) (stored 20 20) 11
     ∷ checked (head 1 ++ row 1 0x03 1 4 0 0 0 2) (stored 20 20) 11

@@ -16,7 +16,7 @@ use Rattle.frames.specs.declared.message.Field.{Field}
 use Rattle.frames.specs.declared.message.Message.{Message}
 use Rattle.frames.specs.declared.message.Scheme.{Scheme}
 use Rattle.frames.specs.declared.message.Writing.{Writing}
-use Rattle.frames.proofs.Round.{written, reads-back}
+use Rattle.frames.proofs.Round.{written, reads-back, write-not-0}
 use Rattle.composing.specs.Compose.{orMissing, sourceFits, shippedOf, orBlank, lowestGroup, firstCarried}
 use Rattle.composing.specs.Compose.{secondCarried, eventWith, eventBy, composeOf, powerFits, powerBy}
 use Rattle.composing.specs.Compose.{composePowerOf}
@@ -106,7 +106,7 @@ event-by-fits e r = go (firstCarried s e) (first-below e r s)
     s = schemeAt (shippedOf (e .scheme))
 
     go : (x : Field) → Below (schemeLimit s) x → messageFits (eventWith x s e) ≡ true
-    go Field.Blank h = event-fits Scheme.TypeNumber _ _ _ (omega arith) (omega arith) (omega arith)
+    go Field.Blank h = event-fits _ _ _ _ (r .sort) (r .number) (r .information)
     go (Field.Holds v) h = event-fits s _ _ _ h (second-below e r s) (r .information)
 
 event-written : (e : Source) → sourceFits e ≡ true → writeOf (eventBy e) ≡ Writing.Frame (frameOf (eventBy e))
@@ -142,6 +142,21 @@ composes-power short groups e =
     let m : Message = powerBy short groups in
     let w = power-written short groups e in
     (frameOf m, simp e w, reads-back m (frameOf m) w)
+
+-- a composer refuses nothing with 0
+six-not-0 : Writing.Refused 6 ≡ Writing.Refused 0 → ⊥
+six-not-0 q = let z : _≡_ {A = ℕ} 6 0 = ap writingNumber q in omega arith
+
+pub compose-not-0 : (e : Source) → composeOf e ≡ Writing.Refused 0 → ⊥
+unfolding composeOf
+compose-not-0 e =
+    if-by (λ w. w ≡ Writing.Refused 0 → ⊥) (sourceFits e) (λ _ q. write-not-0 (eventBy e) q) (λ _ q. six-not-0 q)
+
+pub power-not-0 : (short groups : ℕ) → composePowerOf short groups ≡ Writing.Refused 0 → ⊥
+unfolding composePowerOf
+power-not-0 short groups =
+    if-by (λ w. w ≡ Writing.Refused 0 → ⊥) (powerFits short groups) (λ _ q. write-not-0 (powerBy short groups) q)
+    (λ _ q. six-not-0 q)
 
 -- so 6 is given exactly if a field is out of range
 pub composer-numbers : ComposerNumbers

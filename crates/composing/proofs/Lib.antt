@@ -1,4 +1,5 @@
 pub mod Composed
 pub mod Exactly
 pub mod Bench
+pub mod Cases
 pub mod Settled

@@ -33,7 +33,7 @@ AllHold [] = Unit {0}
 AllHold (c ∷ cs) = CaseHolds c × AllHold cs
 
 -- scheme, type, number, primary group, short address, group bits, information
-abbrev from : ℕ → ℕ → ℕ → ℕ → ℕ → ℕ → ℕ → Source
+abbrev pub from : ℕ → ℕ → ℕ → ℕ → ℕ → ℕ → ℕ → Source
 from scheme sort number primary short groups information =
     record {
       sort = sort;
@@ -53,7 +53,7 @@ sheet =
     ∷ event (from 1 3 0 255 5 0 0x155) 0x0A0D55 (Message.Event Scheme.ShortType 5 3 0x155)  -- P4
     ∷ event (from 2 0 31 255 63 0 1023) 0x7EFFFF (Message.Event Scheme.ShortNumber 63 31 1023)  -- P5
     ∷ event (from 3 4 0 255 255 (2 ^ 7 + 2 ^ 9) 0) 0x8E1000 (Message.Event Scheme.GroupType 7 4 0)  -- P6
-    ∷ event (from 4 0 0 31 255 0 1) 0xFE0001 (Message.Event Scheme.PrimaryType 31 0 1)  -- P7
+    ∷ event (from 4 0 5 31 255 0 1) 0xFE0001 (Message.Event Scheme.PrimaryType 31 0 1)  -- P7
     ∷ power 5 (2 ^ 3) 0xFEF1C5 (Message.Power (Field.Holds 3) (Field.Holds 5))  -- P8
     ∷ power 255 0 0xFEE000 (Message.Power Field.Blank Field.Blank)  -- P9
     ∷ refused 0xFEE001 5  -- P10

@@ -78,10 +78,10 @@ module _ (f : ℕ) (frame : f < 2 ^ 24) where
         cut f 23 17 (lit≤ tt),
       )
 
--- what was read writes back
+-- what was read writes back, and no refusal has the number 0
 abbrev Back : ℕ → Reading → Type 0
 Back f (Reading.Got m) = writeOf m ≡ Writing.Frame f
-Back f (Reading.Refused n) = Unit {0}
+Back f (Reading.Refused n) = 0 < n
 
 pub written : (m : Message) (f : ℕ) → messageFits m ≡ true → frameOf m ≡ f → writeOf m ≡ Writing.Frame f
 unfolding writeOf
@@ -105,7 +105,7 @@ command-back f frame odd = go (addressOf a) (address-back a (small f 23 16) (com
 
     aim : (x : Address) → addressBack a (Addressed.To x) ≡ true →
         (t : Targeted) → targetBack i t ≡ true → Back f (aimed x t o)
-    aim x p Targeted.Reserved q = tt
+    aim x p Targeted.Reserved q = lit< tt
     aim x p (Targeted.At t) q =
         let pa = both (addressFits x) _ p in
         let ea : addressByte x ≡ a = eqb-true _ _ (pa .1) in
@@ -118,7 +118,7 @@ command-back f frame odd = go (addressOf a) (address-back a (small f 23 16) (com
         )) (simp (ea, et) (omega (arith, sum)))
 
     go : (x : Addressed) → addressBack a x ≡ true → Back f (addressed x i o)
-    go Addressed.Reserved p = tt
+    go Addressed.Reserved p = lit< tt
     go (Addressed.Special s) p =
         let q = both (ltb s 16) _ p in
         let e : 0xC1 + s * 2 ≡ a = eqb-true _ _ (q .1) in
@@ -148,8 +148,8 @@ power-back f frame even high low =
   where
     go : (x y : Fielded) → FieldBack (bit f 12) (bits f 11 7) x → FieldBack (bit f 6) (bits f 5 0) y
         → Back f (powered x y)
-    go Fielded.NotBlank y p q = tt
-    go (Fielded.Is x) Fielded.NotBlank p q = tt
+    go Fielded.NotBlank y p q = lit< tt
+    go (Fielded.Is x) Fielded.NotBlank p q = lit< tt
     go (Fielded.Is x) (Fielded.Is y) p q =
         written (Message.Power x y) f
         (simp (p .1, q .1, lt-ltb (bits f 11 7) 32 (small f 11 7), lt-ltb (bits f 5 0) 64 (small f 5 0)))
@@ -183,8 +183,8 @@ event-back f frame even = go (schemeOf (bit f 23) (bit f 22) (bit f 15)) (scheme
     go : (x : Schemed) → SchemeBack f x → Back f (schemed x f)
     go Schemed.Other p =
         if-eq (Back f) (bits f 23 17) 0x7F
-        (λ h. if-eq (Back f) (bits f 15 13) 7 (λ l. power-back f frame even h l) (λ l. tt))
-        (λ h. tt)
+        (λ h. if-eq (Back f) (bits f 15 13) 7 (λ l. power-back f frame even h l) (λ l. lit< tt))
+        (λ h. lit< tt)
     go (Schemed.By s) p =
         written (Message.Event s (firstField s f) (bits f 14 10) (bits f 9 0)) f
         (simp (
@@ -200,10 +200,14 @@ read-back f =
     if-lt (Back f) f _
     (λ h. let frame : f < 2 ^ 24 = omega arith in
     if-eq (Back f) (bit f 16) 1 (command-back f frame) (λ n. event-back f frame (omega (arith, small f 16 16))))
-    (λ l. tt)
+    (λ l. lit< tt)
 
 pub writes-back : WritesBack
 writes-back f m e = subst (Back f) e (read-back f)
+
+-- the reader refuses nothing with 0
+pub read-not-0 : (f : ℕ) → readOf f ≡ Reading.Refused 0 → ⊥
+read-not-0 f e = let z : 0 < 0 = subst (Back f) e (read-back f) in omega arith
 
 -- reading a frame that is given as a sum: a command
 command-read : (f a i o : ℕ) → f ≡ bytesFrame a i o → a < 256 → a % 2 ≡ 1 → i < 256 → o < 256 →
@@ -335,8 +339,16 @@ message-read (Message.Power g s) e =
     (x .1) (ltb-true _ _ (p .0)) (y .1) (ltb-true _ _ (p .1))
     ∙ simp (x .0, y .0)
 
+-- the writer refuses nothing with 0
+pub write-not-0 : (m : Message) → writeOf m ≡ Writing.Refused 0 → ⊥
+unfolding writeOf
+write-not-0 m =
+    if-by (λ w. w ≡ Writing.Refused 0 → ⊥) (messageFits m)
+    (λ _ q. let z : _≡_ {A = ℕ} 0 1 = cc in omega arith)
+    (λ _ q. let z : _≡_ {A = ℕ} 6 0 = cc in omega arith)
+
 -- what a written frame says of its message
-write-says : (m : Message) (f : ℕ) → writeOf m ≡ Writing.Frame f → (messageFits m ≡ true) × (frameOf m ≡ f)
+pub write-says : (m : Message) (f : ℕ) → writeOf m ≡ Writing.Frame f → (messageFits m ≡ true) × (frameOf m ≡ f)
 unfolding writeOf
 write-says m f e = go (messageFits m) refl e
   where

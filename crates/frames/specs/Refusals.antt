@@ -2,12 +2,14 @@
 -- Proved in proofs/: Refusals and Exactly.
 -- Assumes nothing.
 use mathlib.Core.Path.{_≡_}
-use mathlib.Core.Bool.{Bool, not, _&&_, _||_}
+use mathlib.Core.Logic.{_↔_}
+use mathlib.Core.Bool.{Bool, true, not, _&&_, _||_}
 use mathlib.Core.List.{List, [], _∷_}
 use Prim.Native.Nat.{ℕ, _<_}
 use lib.Dec.{ltb, eqb}
 use Rattle.laws.specs.Bits.{bits, bit}
 use Rattle.laws.specs.Counts.{below, count}
+use Rattle.laws.specs.Lists.{every}
 use Rattle.laws.specs.Numbers.{Test, test, firstFailing, Given}
 use Rattle.frames.specs.Kind.{kindOf}
 use Rattle.frames.specs.Values.{readingNumber, writingNumber}
@@ -78,12 +80,17 @@ writerTests m = test 6 (messageFits m) ∷ []
 abbrev pub WriterNumbers : Type 0
 WriterNumbers = (m : Message) → writingNumber (writeOf m) ≡ firstFailing (writerTests m)
 
--- so each number is given exactly if every test before its own passes and its own fails
-abbrev pub ReadingExactly : Reading → List Test → Type 0
-ReadingExactly r ts = (n : ℕ) → 0 < n → (r ≡ Reading.Refused n → Given ts n) × (Given ts n → r ≡ Reading.Refused n)
+-- so each number is given exactly if every test before its own passes and its own fails; a message is got, and a frame
+-- written, exactly if all tests pass; and no refusal has the number 0
+pub record ReadingExactly (r : Reading) (ts : List Test) : Type 0 where
+  pub refused : (n : ℕ) → 0 < n → (r ≡ Reading.Refused n) ↔ Given ts n
+  pub got : ((m : Message) × (r ≡ Reading.Got m)) ↔ (every (λ t. t .passes) ts ≡ true)
+  pub not-0 : r ≡ Reading.Refused 0 → ⊥
 
-abbrev pub WritingExactly : Writing → List Test → Type 0
-WritingExactly w ts = (n : ℕ) → 0 < n → (w ≡ Writing.Refused n → Given ts n) × (Given ts n → w ≡ Writing.Refused n)
+pub record WritingExactly (w : Writing) (ts : List Test) : Type 0 where
+  pub refused : (n : ℕ) → 0 < n → (w ≡ Writing.Refused n) ↔ Given ts n
+  pub frame : ((f : ℕ) × (w ≡ Writing.Frame f)) ↔ (every (λ t. t .passes) ts ≡ true)
+  pub not-0 : w ≡ Writing.Refused 0 → ⊥
 
 pub record Exactly : Type 0 where
   pub read : (f : ℕ) → ReadingExactly (readOf f) (readerTests f)

@@ -1,4 +1,6 @@
+pub mod Bytes
 pub mod Codes
+pub mod Exactly
 pub mod Foreign
 pub mod Closing
 pub mod PairRule

@@ -3,6 +3,7 @@
 use Prim.Native.Nat.{ℕ, _+_, _*_}
 use mathlib.Core.Path.{_≡_}
 use mathlib.Core.Bool.{true, false}
+use mathlib.Core.List.{List, [], _∷_}
 use Rattle.laws.specs.Bits.{bits}
 use Rattle.hearing.specs.declared.meaning.Once.{Once}
 use Rattle.hearing.specs.declared.meaning.Once.the-variants.{QueryMissingShortAddress, QueryContentDtr}
@@ -42,6 +43,35 @@ onceCode (WriteMemoryLocation byte false) = special 0xC1 0x21 byte
 onceCode (DirectWriteMemory offset byte) = special 0xC5 offset byte
 onceCode (SetDtr k byte) = special 0xC1 (0x30 + k) byte
 onceCode (SetDtrs k high low) = special (0xC7 + 2 * k) high low
+
+-- the listed commands, in paper 01's order; first and second are the free bytes of a special one
+abbrev pub listedWith : (first second : ℕ) → List Meaning
+listedWith first second =
+    NeedsPair ResetMemoryBank
+    ∷ NeedsPair SetShortAddress
+    ∷ NeedsPair EnableWriteMemory
+    ∷ NeedsPair (AddToDeviceGroups 0)
+    ∷ NeedsPair (AddToDeviceGroups 1)
+    ∷ NeedsPair (RemoveFromDeviceGroups 0)
+    ∷ NeedsPair (RemoveFromDeviceGroups 1)
+    ∷ AtOnce QueryMissingShortAddress
+    ∷ AtOnce (QueryContentDtr 0)
+    ∷ AtOnce (QueryContentDtr 1)
+    ∷ AtOnce (QueryContentDtr 2)
+    ∷ AtOnce ReadMemoryLocation
+    ∷ AtOnce (QueryDeviceGroups 0)
+    ∷ AtOnce (QueryDeviceGroups 1)
+    ∷ AtOnce (QueryDeviceGroups 2)
+    ∷ AtOnce (QueryDeviceGroups 3)
+    ∷ AtOnce (WriteMemoryLocation second true)
+    ∷ AtOnce (WriteMemoryLocation second false)
+    ∷ AtOnce (SetDtr 0 second)
+    ∷ AtOnce (SetDtr 1 second)
+    ∷ AtOnce (SetDtr 2 second)
+    ∷ AtOnce (DirectWriteMemory first second)
+    ∷ AtOnce (SetDtrs 0 first second)
+    ∷ AtOnce (SetDtrs 1 first second)
+    ∷ []
 
 -- what is foreign, or not obeyed, is no listed command
 abbrev pub codeOf : Meaning → Code

@@ -1,17 +1,17 @@
 -- What is proved about the definitions. The proofs stand in proofs/, under the same names.
 -- Assumes nothing.
 use mathlib.Core.Path.{_≡_}
-use mathlib.Core.Logic.{_↔_}
+use mathlib.Core.Logic.{_⊎_, _↔_}
 use mathlib.Core.Bool.{true, false}
-use mathlib.Core.List.{List, [], _∷_, _++_}
+use mathlib.Core.List.{List, [], _∷_, _++_, List·Memᴰ}
 use Prim.Native.Nat.{ℕ, _/_, _%_, _^_}
-use Rattle.laws.specs.Bits.{bit}
+use Rattle.laws.specs.Bits.{bits, bit}
 use Rattle.laws.specs.Choice.{if_then_else_}
 use Rattle.frames.specs.Read.{readOf}
 use Rattle.frames.specs.declared.message.Address.{Address}
 use Rattle.frames.specs.declared.message.Message.{Message}
 use Rattle.frames.specs.declared.message.Reading.{Reading}
-use Rattle.hearing.specs.Codes.{Code, device, special, codeOf, Stands}
+use Rattle.hearing.specs.Codes.{Code, none, device, special, listedWith, codeOf, Stands}
 use Rattle.hearing.specs.Meaning.{Row, isFor, deviceRows, firstRows, otherRows, meaningOf, closes}
 use Rattle.hearing.specs.Pairs.{heardAt, passed, completes, noneWaits, waitsFor}
 use Rattle.hearing.specs.declared.rooms.Heard.{Heard}
@@ -29,6 +29,42 @@ pub record ForTheUnit (who : Who) : Type 0 where
 -- the bytes of every frame that means a listed command are those of paper 01
 abbrev pub CodeStands : Type 0
 CodeStands = (who : Who) (f : ℕ) → Stands (codeOf (meaningOf who f)) f
+
+-- a frame that is read as a command whose address means the unit
+abbrev pub ToUnit : Who → Reading → Type 0
+ToUnit who (Reading.Got (Message.Command address target opcode)) = isFor who address ≡ true
+ToUnit who (Reading.Got (Message.Special number first second)) = ⊥
+ToUnit who (Reading.Got (Message.Event scheme first second information)) = ⊥
+ToUnit who (Reading.Got (Message.Power group short)) = ⊥
+ToUnit who (Reading.Refused number) = ⊥
+
+-- or as a special one
+abbrev pub IsSpecial : Reading → Type 0
+IsSpecial (Reading.Got (Message.Command address target opcode)) = ⊥
+IsSpecial (Reading.Got (Message.Special number first second)) = Unit {0}
+IsSpecial (Reading.Got (Message.Event scheme first second information)) = ⊥
+IsSpecial (Reading.Got (Message.Power group short)) = ⊥
+IsSpecial (Reading.Refused number) = ⊥
+
+-- the frame is a command for the unit, and the code's bytes stand in it; a special command has no instance byte
+abbrev pub Asks : Who → ℕ → Code → Type 0
+Asks who f none = ⊥
+Asks who f (device opcode) = ToUnit who (readOf f) × Stands (device opcode) f
+Asks who f (special address first second) = IsSpecial (readOf f) × Stands (special address first second) f
+
+-- the four answers, each exactly if
+pub record MeansExactly (who : Who) (f : ℕ) : Type 0 where
+  -- a listed command: a frame for the unit with that command's bytes
+  pub listed : (m : Meaning) → List·Memᴰ m (listedWith (bits f 15 8) (bits f 7 0))
+      → (meaningOf who f ≡ m) ↔ Asks who f (codeOf m)
+  -- not obeyed: a command for the unit with no listed command's bytes
+  pub not-obeyed : (meaningOf who f ≡ Meaning.NotObeyed) ↔ ((ToUnit who (readOf f) ⊎ IsSpecial (readOf f))
+      × ((m : Meaning) → List·Memᴰ m (listedWith (bits f 15 8) (bits f 7 0)) → Asks who f (codeOf m) → ⊥))
+  -- foreign: no command for the unit
+  pub foreign : (meaningOf who f ≡ Meaning.Foreign) ↔ (ToUnit who (readOf f) ⊎ IsSpecial (readOf f) → ⊥)
+
+abbrev pub ListedExactly : Type 0
+ListedExactly = (who : Who) (f : ℕ) → MeansExactly who f
 
 -- an event and a reserved frame are foreign for every unit
 abbrev pub EventForeign : Type 0

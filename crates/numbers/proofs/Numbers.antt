@@ -64,7 +64,7 @@ module _ (map store : List ℕ) (kept : ℕ) (us : List Test) where
 module _ (map store : List ℕ) (kept : ℕ) (s : State) where
   power-first : 0 < checkNumber map store kept → powerNumber map store kept s ≡ checkNumber map store kept
   unfolding powerNumber
-  power-first = checks-first map store kept (powersBehind map store s)
+  power-first = checks-first map store kept _
 
   power-then : checkNumber map store kept ≡ 0
       → powerNumber map store kept s ≡ (if stateHolds (recordsOf map) store s then 0 else 12)

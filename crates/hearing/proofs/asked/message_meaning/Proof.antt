@@ -23,5 +23,5 @@ message-meaning-spec =
     (c .command-at .ensures))
     (λ c. rw (c .before .before .before .message .given .1, ← c .before .is-for .ensures, c .if1 .left))
     (λ c. rw (c .before .before .message2 .given .1) (c .special-command .ensures))
-    (λ c. search needs)
+    (λ c. rw (c .enum-told .given .1))
     (λ c. search needs))
