@@ -13,6 +13,7 @@ use Rattle.composing.proofs.Composed.{power-numbers}
 use Rattle.composing.proofs.Exactly.{exactly as composing-exactly}
 use Rattle.composing.proofs.Bench.{sheet-holds as composing-sheet-holds}
 use Rattle.composing.proofs.Settled.{settled as composing-settled}
+use Rattle.composing.proofs.Cases.{compose-cases}
 use Rattle.records.proofs.Ordered.{order-stands, order-numbers, order-settled}
 use Rattle.records.proofs.Cases.{order-cases}
 use Rattle.banks.proofs.Standing.{check-stands, check-numbers, check-settled}
@@ -23,18 +24,22 @@ use Rattle.looks.proofs.Cases.{look-cases}
 use Rattle.entries.proofs.Cases.{cases as entries-cases}
 use Rattle.entries.proofs.Moved.{rest-kept, rest-settled}
 use Rattle.entries.proofs.Codes.{one-entry, broken-is-13}
-use Rattle.entries.proofs.Settled.{entry-settled}
+use Rattle.entries.proofs.Settled.{entry-settled, four-bytes-settled}
 use Rattle.memory.proofs.StagedRoom.{write-value}
-use Rattle.memory.proofs.LatchRoom.{read-latched}
+use Rattle.memory.proofs.LatchRoom.{read-latched, read-first, read-other, read-none}
 use Rattle.memory.proofs.Fills.{fill-value}
 use Rattle.memory.proofs.Locks.{fill-locks}
 use Rattle.memory.proofs.Writes.{write-not-last}
 use Rattle.memory.proofs.Run.{whole-value}
+use Rattle.memory.proofs.Cases.{read-cases, reset-cases}
+use Rattle.memory.proofs.Resets.{fill-resets}
+use Rattle.memory.proofs.ResetSettled.{reset-settled}
 use Rattle.hearing.proofs.PairRule.{pair-clocks, no-pair}
 use Rattle.hearing.proofs.Addressing.{for-the-unit, special-for-all}
 use Rattle.hearing.proofs.Codes.{code-stands}
 use Rattle.hearing.proofs.Foreign.{event-foreign, reserved-foreign}
 use Rattle.hearing.proofs.Closing.{eleven-keep, closes-nothing}
+use Rattle.hearing.proofs.Exactly.{listed-exactly}
 use Rattle.rooms.proofs.Promises.{short-takes-address}
 use Rattle.rooms.proofs.Codes.{one-due}
 use Rattle.numbers.proofs.Cases.{state-cases, start-cases}
@@ -42,12 +47,15 @@ use Rattle.numbers.proofs.Numbers.{calls-numbered, tests-in-order, numbers-sett
 use Rattle.unit.proofs.Accepted.{calls-power-on, store-kept, accepted-again, run-accepted, one-value-changes}
 use Rattle.unit.proofs.Foreign.{foreign-passes-by, event-breaks-pair}
 use Rattle.unit.proofs.Leaving.{frames-leave}
-use Rattle.unit.proofs.Worked.{worked-hold}
+use Rattle.unit.proofs.Worked.{worked-hold, two-banks-hold}
 use Rattle.unit.proofs.Numbers.{calls-reply, calls-refused, calls-accepted, calls-settled}
 use Rattle.unit.proofs.Bench.{sheet-holds as unit-sheet-holds}
+use Rattle.unit.proofs.Resets.{reset-due, step-resets}
 use Rattle.history.proofs.Demand.{unit-demand, unit-read-only, lock-by-grammar, in-order}
 use Rattle.history.proofs.Bench.{p11-writing, p12-no-writing}
 use Rattle.history.proofs.Wrong.{wrong-ones-fail}
+use Rattle.history.proofs.Follow.{others-follow}
+use Rattle.history.proofs.Use.{always-whole, refused-exactly, refused-change-nothing}
 use Rattle.tracing.proofs.Bench.{bench-files, bench-traces}
 use Rattle.tracing.proofs.Starts.{files-numbered, one-byte-more, files-settled}
 use Rattle.tracing.proofs.Continued.{four-each, thirteen-ends, one-after-other}
@@ -56,12 +64,16 @@ use Rattle.tracing.proofs.Cutting.{cut-anywhere}
 use Rattle.tracing.proofs.Settled.{run-settled, who-settled}
 use Rattle.packing.proofs.Round.{state-back, bytes-back}
 use Rattle.packing.proofs.Cases.{cases as packing-cases}
+use Rattle.packing.proofs.Settled.{settled}
 use Rattle.faces.proofs.Settled.{settled as faces-settled}
 use Rattle.faces.proofs.Words.{replies-back, looks-back, writings-back}
 use Rattle.faces.proofs.LowByte.{low-byte as faces-low-byte}
 use Rattle.faces.proofs.Numbers.{faces-numbered, faces-refused}
 use Rattle.faces.proofs.NoByte.{faces-not-cut}
 use Rattle.faces.proofs.Cases.{cases as faces-cases}
+use Rattle.lifted.proofs.Demand.{demand-in-c, read-only-stay-in-c, accepts-as-unit}
+use Rattle.lifted.proofs.Following.{follows-unit}
+use Rattle.lifted.proofs.Each.{run-each, records-fit}
 use Rattle.claims.specs.Claims.{Frames, MapStoreImage, StateClock, CommandsObeyed, CompleteWriting}
 use Rattle.claims.specs.Claims.{RefusalNumbers, TraceProgram, BenchSheet, ErrorsSeen, PlaceForms}
 use Rattle.claims.specs.Claims.{Judging, CLibrary, Claims}
@@ -79,6 +91,7 @@ frames = record {
   missing-field-falls-back = falls-back;
   power-events-are-composed = composes-power;
   lowest-group = lowest;
+  composing-boundaries = compose-cases;
 }
 
 map-store-image : MapStoreImage
@@ -110,6 +123,7 @@ commands-obeyed = record {
   for-the-unit = for-the-unit;
   special-for-all = special-for-all;
   listed-bytes = code-stands;
+  listed-exactly = listed-exactly;
   event-is-foreign = event-foreign;
   reserved-is-foreign = reserved-foreign;
   short-takes-address = short-takes-address;
@@ -119,15 +133,29 @@ commands-obeyed = record {
   frames-leave = frames-leave;
   one-value-changes = one-value-changes;
   last-byte-puts-the-value = write-value;
+  first-byte-ends-the-latch = read-first;
   later-bytes-from-the-latch = read-latched;
+  other-bytes-from-the-store = read-other;
+  unmapped-has-no-answer = read-none;
+  read-boundaries = read-cases;
+  reset-of-the-store = fill-resets;
+  reset-is-settled = reset-settled;
+  reset-boundaries = reset-cases;
+  reset-needs-its-pair = reset-due;
+  reset-step = step-resets;
   reset-fills-values = fill-value;
   reset-locks = fill-locks;
   worked-runs = worked-hold;
+  two-bank-runs = two-banks-hold;
 }
 
 complete-writing : CompleteWriting
 complete-writing = record {
   unit-demand = unit-demand;
+  rest-follows-from-two = others-follow;
+  always-whole = always-whole;
+  refused-exactly = refused-exactly;
+  refused-inputs-change-nothing = refused-change-nothing;
   unit-read-only = unit-read-only;
   lock-by-grammar = lock-by-grammar;
   history-in-order = in-order;
@@ -207,10 +235,12 @@ judging = record {
   numbers-settled = numbers-settled;
   calls-settled = calls-settled;
   entry-settled = entry-settled;
+  four-bytes-settled = four-bytes-settled;
   rest-settled = rest-settled;
   run-settled = run-settled;
   who-settled = who-settled;
   files-settled = files-settled;
+  packing-settled = settled;
   faces-settled = faces-settled;
   whole-value = whole-value;
 }
@@ -228,6 +258,12 @@ c-library = record {
   faces-not-cut = faces-not-cut;
   faces-refused = faces-refused;
   sheet-in-c = faces-cases;
+  demand-in-c = demand-in-c;
+  read-only-stay-in-c = read-only-stay-in-c;
+  c-follows-the-unit = follows-unit;
+  c-accepts-as-the-unit = accepts-as-unit;
+  run-is-each-record = run-each;
+  records-fit = records-fit;
 }
 
 pub claims : Claims

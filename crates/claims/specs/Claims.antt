@@ -13,6 +13,7 @@ use Rattle.words.specs.Promises.{WordGives, GivesWord, WordRefused, LowByte as 
 use Rattle.composing.specs.Promises.{Composes, Carries, FallsBack, ComposesPower, Lowest, Settled as ComposingSettled}
 use Rattle.composing.specs.Refusals.{ComposerNumbers, PowerNumbers, Exactly as ComposingExactly}
 use Rattle.composing.specs.Bench.{SheetHolds as ComposingSheetHolds}
+use Rattle.composing.specs.Cases.{ComposeCases}
 use Rattle.records.specs.Promises.{OrderStands, OrderNumbers, OrderSettled}
 use Rattle.records.specs.Cases.{OrderCases}
 use Rattle.banks.specs.Promises.{CheckStands, CheckNumbers, CheckSettled}
@@ -21,34 +22,40 @@ use Rattle.looks.specs.Promises.{LookShows, LookStands, LookEmpty, LookNumbers,
 use Rattle.looks.specs.Promises.{LookSettled}
 use Rattle.looks.specs.Cases.{LookCases}
 use Rattle.entries.specs.Cases.{Cases as EntriesCases}
-use Rattle.entries.specs.Promises.{RestKept, EntrySettled, RestSettled}
+use Rattle.entries.specs.Promises.{RestKept, EntrySettled, RestSettled, FourBytesSettled}
 use Rattle.entries.specs.Codes.{OneEntry, BrokenIs13}
-use Rattle.memory.specs.Promises.{WriteValue, ReadLatched, FillValue, FillLocks, WriteNotLast, WholeValue}
+use Rattle.memory.specs.Promises.{WriteValue, ReadLatched, FillValue, FillLocks, WriteNotLast, WholeValue, ReadFirst}
+use Rattle.memory.specs.Promises.{ReadOther, ReadNone}
+use Rattle.memory.specs.Cases.{ReadCases, ResetCases}
+use Rattle.memory.specs.Reset.{FillResets, ResetSettled}
 use Rattle.hearing.specs.declared.rooms.Who.{Who}
 use Rattle.hearing.specs.declared.rooms.Heard.{Heard}
 use Rattle.hearing.specs.Promises.{PairClocks, NoPair, ForTheUnit, SpecialForAll, CodeStands, EventForeign}
-use Rattle.hearing.specs.Promises.{ReservedForeign, ElevenKeep, ClosesNothing}
+use Rattle.hearing.specs.Promises.{ReservedForeign, ElevenKeep, ClosesNothing, ListedExactly}
 use Rattle.rooms.specs.Promises.{ShortTakesAddress}
 use Rattle.rooms.specs.Codes.{OneDue}
 use Rattle.numbers.specs.Cases.{StateCases, StartCases}
 use Rattle.numbers.specs.Promises.{CallsNumbered, TestsInOrder, NumbersSettled}
-use Rattle.unit.specs.Keeping.{CallsPowerOn, CallsKeepStore, CallsAcceptedAgain, RunAccepted, OneValueChanges}
+use Rattle.unit.specs.Keeping.{CallsPowerOn, CallsKeepStore, CallsAcceptedAgain, RunAccepted, OneValueChanges, ResetDue}
+use Rattle.unit.specs.Keeping.{StepResets}
 use Rattle.unit.specs.Leaving.{ForeignPassesBy, FramesLeave, EventBreaksPair}
-use Rattle.unit.specs.Worked.{WorkedHold}
+use Rattle.unit.specs.Worked.{WorkedHold, TwoBanksHold}
 use Rattle.unit.specs.Promises.{CallsReply, CallsRefused, CallsAccepted, CallsSettled}
 use Rattle.unit.specs.Bench.{SheetHolds as UnitSheetHolds}
-use Rattle.history.specs.Machine.{unitMachine}
-use Rattle.history.specs.Demand.{Demand, ReadOnlyStay, LockByGrammar, InOrder}
+use Rattle.history.specs.Machine.{Machine, unitMachine}
+use Rattle.history.specs.Demand.{Demand, ReadOnlyStay, LockByGrammar, InOrder, OthersFollow}
 use Rattle.history.specs.Bench.{P11Writing, P12NoWriting}
 use Rattle.history.specs.Wrong.{WrongOnesFail}
+use Rattle.history.specs.Use.{AlwaysWhole, RefusedExactly, RefusedChangeNothing}
 use Rattle.tracing.specs.Bench.{BenchFiles, BenchTraces}
 use Rattle.tracing.specs.Promises.{FilesNumbered, OneByteMore, FourEach, ThirteenEnds, OneCheck, OneAfterOther}
 use Rattle.tracing.specs.Promises.{CutAnywhere, RunSettled, WhoSettled, FilesSettled}
-use Rattle.packing.specs.Promises.{StateBack, BytesBack}
+use Rattle.packing.specs.Promises.{StateBack, BytesBack, Settled}
 use Rattle.packing.specs.Cases.{Cases as PackingCases}
 use Rattle.faces.specs.Promises.{Settled as FacesSettled, RepliesBack, LooksBack, WritingsBack}
 use Rattle.faces.specs.Promises.{LowByte as FacesLowByte, FacesNumbered, FacesNotCut, FacesRefused}
 use Rattle.faces.specs.Cases.{Cases as FacesCases}
+use Rattle.lifted.specs.Promises.{DemandInC, ReadOnlyStayInC, FollowsUnit, AcceptsAsUnit, RunEach, RecordsFit}
 
 -- ---- Frames
 
@@ -76,6 +83,8 @@ pub record Frames : Type 0 where
   pub power-events-are-composed : ComposesPower
   -- "Lowest member group by trailing zeros of the 32 group bits, for scheme 3 and the power event"
   pub lowest-group : Lowest
+  -- each boundary of what is composed, in one table
+  pub composing-boundaries : ComposeCases
 
 -- ---- Map, store, reset image
 
@@ -130,6 +139,8 @@ pub record CommandsObeyed : Type 0 where
   pub special-for-all : SpecialForAll
   -- "With instance byte 0xFE: ..", "Special: ..": the bytes of each listed command, and no other is obeyed
   pub listed-bytes : CodeStands
+  -- both ways: a frame for the unit with these bytes, and no other, has that meaning
+  pub listed-exactly : ListedExactly
   -- an event is for no unit
   pub event-is-foreign : EventForeign
   -- nor is a reserved frame: "such a frame only clears the waiting one"
@@ -148,20 +159,49 @@ pub record CommandsObeyed : Type 0 where
   pub one-value-changes : OneValueChanges
   -- "A last byte puts the whole value in the store"
   pub last-byte-puts-the-value : WriteValue
+  -- "Reading a first or single byte ends any latch; a first byte of width 2 or more latches that value's bytes"
+  pub first-byte-ends-the-latch : ReadFirst
   -- "its later bytes are answered from the latch"
   pub later-bytes-from-the-latch : ReadLatched
+  -- a later byte of any other value, of another bank too, is answered from the store
+  pub other-bytes-from-the-store : ReadOther
+  -- "or none if the location is unmapped"
+  pub unmapped-has-no-answer : ReadNone
+  -- reads with and without a latch, in one table
+  pub read-boundaries : ReadCases
+  -- "RESET MEMORY BANK: DTR0=0 means each mapped bank 1..199, else bank DTR0; only a bank whose lock byte is 0x55. Its
+  -- other writable values take the reset image, its lock byte 0xFF"
+  pub reset-of-the-store : FillResets
+  -- and this tells the whole store
+  pub reset-is-settled : ResetSettled
+  -- resets of banks 1 and 2, in one table
+  pub reset-boundaries : ResetCases
+  -- such a pair for the unit, and no other frame, makes a reset due
+  pub reset-needs-its-pair : ResetDue
+  -- and, accepted, it leaves the store so
+  pub reset-step : StepResets
   -- "Its other writable values take the reset image"
   pub reset-fills-values : FillValue
   -- "its lock byte 0xFF"
   pub reset-locks : FillLocks
   -- runs of the commands on the bench map, in one table
   pub worked-runs : WorkedHold
+  -- runs on a map with banks 1 and 2, in one table
+  pub two-bank-runs : TwoBanksHold
 
 -- ---- Grammar of a complete writing: demand 3
 
-pub record CompleteWriting : Type 0 where
+pub record CompleteWriting : Type 1 where
   -- whatever is sent, in whatever order, and wherever it is cut off: each writable value is whole at every point
   pub unit-demand : Demand unitMachine
+  -- of any machine: its first two lines, at every accepted point, give the others
+  pub rest-follows-from-two : {S : Type 0} (machine : Machine S) → OthersFollow machine
+  -- joined to use: after an accepted start every list of power-ons and frames is accepted, and whole at every point
+  pub always-whole : AlwaysWhole unitMachine
+  -- with refused frames among them too: which number the next input has
+  pub refused-exactly : RefusedExactly unitMachine
+  -- and such a list comes to the same as the list without them
+  pub refused-inputs-change-nothing : RefusedChangeNothing unitMachine
   -- beside it: a value that is not writable is what it was before the start
   pub unit-read-only : ReadOnlyStay unitMachine
   -- "the lock byte by this same grammar"
@@ -298,6 +338,8 @@ pub record Judging : Type 0 where
   pub calls-settled : CallsSettled
   -- of a trace record
   pub entry-settled : EntrySettled
+  -- of four bytes, high byte first
+  pub four-bytes-settled : FourBytesSettled
   -- of what stays of a slice
   pub rest-settled : RestSettled
   -- of a run: count, state, store and output
@@ -306,6 +348,8 @@ pub record Judging : Type 0 where
   pub who-settled : WhoSettled
   -- of the number of the files
   pub files-settled : FilesSettled
+  -- of a state as 96 bytes
+  pub packing-settled : Settled
   -- of the ten calls of the C library
   pub faces-settled : FacesSettled
   -- "Facts over widths 1 to 8 are shown once, over the width": n writes leave the whole value
@@ -336,10 +380,22 @@ pub record CLibrary : Type 0 where
   pub faces-refused : FacesRefused
   -- the bench sheet as C sees it, in one table
   pub sheet-in-c : FacesCases
+  -- demand 3 of the unit as C sees it: 96 bytes, mf_start, mf_frame, mf_power_on
+  pub demand-in-c : DemandInC
+  -- and a value that is not writable is what it was before the start
+  pub read-only-stay-in-c : ReadOnlyStayInC
+  -- after every history that C can be told, its unit is ours
+  pub c-follows-the-unit : FollowsUnit
+  -- and accepts exactly what ours accepts of it
+  pub c-accepts-as-the-unit : AcceptsAsUnit
+  -- mf_run: each record as mf_frame or mf_power_on would do it
+  pub run-is-each-record : RunEach
+  -- which holds of any records of bytes
+  pub records-fit : RecordsFit
 
 -- ---- The page
 
-pub record Claims : Type 0 where
+pub record Claims : Type 1 where
   pub frames : Frames
   pub map-store-image : MapStoreImage
   pub state-clock : StateClock
