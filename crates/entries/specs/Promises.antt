@@ -41,9 +41,12 @@ KeepRestPromise before filled r left = Keeps r before left filled
 
 -- ---- results meeting the same promise are equal
 
+-- two results that meet one promise are equal, and so are the bytes that are left
+abbrev pub SettlesRest : (ℕ → List ℕ → Type 0) → Type 0
+SettlesRest promise = (q r : ℕ) (s t : List ℕ) → promise q s → promise r t → (q ≡ r) × (s ≡ t)
+
 abbrev pub RestSettled : Type 0
-RestSettled = (before : List ℕ) (filled q r : ℕ) (after left : List ℕ)
-    → KeepRestPromise before filled q after → KeepRestPromise before filled r left → (q ≡ r) × (after ≡ left)
+RestSettled = (before : List ℕ) (filled : ℕ) → SettlesRest (KeepRestPromise before filled)
 
 abbrev pub EntrySettled : Type 0
 EntrySettled = (bytes : List ℕ) (i : ℕ) → Settles (EntryAtPromise bytes i)

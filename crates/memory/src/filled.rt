@@ -77,7 +77,8 @@ fn choices(map: &[u8], store: &[u8], filling: Filling) -> [bool; 64]
 // Internal: each value that is chosen takes its fresh bytes. Map, store and image have passed 7 to 10.
 pub fn fill_store(map: &[u8], store: &mut [u8], image: &[u8], filling: Filling)
     requires { ⌜ (placed (now map) (length (now store)) ≡ true) × (length (now image) ≡ length (now store)) ⌝ }
-    ensures { λ _. ⌜ now (store .exit) ≡ filledOf (recordsOf (now (map .entry))) (now (store .entry)) (now (image .entry)) filling ⌝ }
+    ensures { λ _. ⌜ now (store .exit)
+        ≡ filledOf (recordsOf (now (map .entry))) (now (store .entry)) (now (image .entry)) filling ⌝ }
 {
     let picks = choices(map, store, filling);
     let mut i = records(map);

@@ -136,7 +136,8 @@ pub fn write_byte(
     byte: u8,
 ) -> Wrote
     requires { ⌜ placed (now map) (length (now store)) ≡ true ⌝ }
-    ensures { λ a. ⌜ Gives a (now (store .exit)) (writeOf (recordsOf (now (map .entry))) (now (store .entry)) staged bank location byte) ⌝ }
+    ensures { λ a. ⌜ Gives a (now (store .exit))
+        (writeOf (recordsOf (now (map .entry))) (now (store .entry)) staged bank location byte) ⌝ }
 {
     match lookup(map, bank, location) {
         Found::At(r) => write_found(map, store, staged, r, location, byte),
