@@ -1,4 +1,5 @@
--- What a READ answers, from the latch or from the store, what it leaves latched, and the rule of latched bytes after it.
+-- What a READ answers, from the latch or from the store, what it leaves latched, and the rule of latched bytes after
+-- it.
 -- Assumes nothing.
 use Prim.Native.Nat.{ℕ, _-_, _≤_, _<_}
 use mathlib.Core.Path.{_≡_, refl, ap, sym, _∙_}
@@ -24,8 +25,8 @@ use Rattle.banks.specs.Facts.{Within}
 use Rattle.banks.proofs.Places.{placed-ordered, holder-within}
 use Rattle.memory.specs.Latched.{latchFrom, latches, shown, showByte, readAt, readOf}
 use Rattle.memory.specs.Rooms.{zeroFrom, latchedIn, latchHolds}
-use Rattle.memory.specs.Promises.{LatchOf, ShowsFirst, NoneLatchedHolds, ReadKeepsRule, ReadFirst, ReadLatched, ReadOther}
-use Rattle.memory.specs.Promises.{ReadNone}
+use Rattle.memory.specs.Promises.{LatchOf, ShowsFirst, NoneLatchedHolds, ReadKeepsRule}
+use Rattle.memory.specs.Promises.{ReadFirst, ReadLatched, ReadOther, ReadNone}
 use Rattle.memory.specs.declared.latched.Latch.{Latch}
 use Rattle.memory.specs.declared.latched.Shown.{Shown}
 use Rattle.memory.proofs.Zeros.{padded-zero}
@@ -63,7 +64,8 @@ unfolding readOf readAt
 read-none rs store l bank location f = rw f
 
 -- the latch that a first or single byte leaves
-latch-first : (store : List ℕ) (r : Record) → ShowsFirst store r (shown (latchFrom r (valueOf r store)) (getD (valueOf r store) 0 0))
+latch-first : (store : List ℕ) (r : Record)
+    → ShowsFirst store r (shown (latchFrom r (valueOf r store)) (getD (valueOf r store) 0 0))
 unfolding latchFrom
 latch-first store r =
     if-by (λ (l : Latch). ShowsFirst store r (shown l (getD (valueOf r store) 0 0))) (leb 2 (r .width))

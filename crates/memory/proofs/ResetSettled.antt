@@ -67,7 +67,8 @@ record Under (rs : List Record) (j : ℕ) : Type 0 where
 abbrev Clear : List Record → ℕ → Type 0
 Clear rs j = (r : Record) → List·Memᴰ r rs → (j < r .offset) ⊎ (placesEnd r ≤ j)
 
-clear-more : (r : Record) (rs : List Record) (j : ℕ) → (j < r .offset) ⊎ (placesEnd r ≤ j) → Clear rs j → Clear (r ∷ rs) j
+clear-more : (r : Record) (rs : List Record) (j : ℕ) → (j < r .offset) ⊎ (placesEnd r ≤ j) → Clear rs j
+    → Clear (r ∷ rs) j
 clear-more r rs j h c q (List·Memᴰ·head e) = rw e h
 clear-more r rs j h c q (List·Memᴰ·tail i) = c q i
 

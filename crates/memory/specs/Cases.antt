@@ -14,8 +14,8 @@ use Rattle.memory.specs.declared.latched.Latch.{Latch}
 use Rattle.memory.specs.declared.latched.Shown.{Shown}
 use Rattle.memory.specs.declared.filled.Filling.the-variants.{Reset}
 
--- each bank has the byte at 0x00, the lock byte, and a value of two bytes at 0x03: in bank 1 NVM-RW and lockable, in bank
--- 2 RAM-RW and not lockable
+-- each bank has the byte at 0x00, the lock byte, and a value of two bytes at 0x03: in bank 1 NVM-RW and lockable, in
+-- bank 2 RAM-RW and not lockable
 abbrev pub twoBanks : List ℕ
 twoBanks =
     row 1 0x00 1 0 0 0 0 0 ++ row 1 0x02 1 2 0 0 0 1 ++ row 1 0x03 2 4 1 0 0 2

@@ -147,7 +147,8 @@ pub record LatchOf (l : Latch) (r : Record) : Type 0 where
   pub same-bank : l .bank ≡ r .bank
   pub same-first : l .first ≡ r .first
 
--- what a READ of the first byte of r leaves and answers, whatever was latched: reading a first or single byte ends any latch
+-- what a READ of the first byte of r leaves and answers, whatever was latched: reading a first or single byte ends any
+-- latch
 pub record ShowsFirst (store : List ℕ) (r : Record) (a : Shown) : Type 0 where
   -- a single byte leaves nothing latched
   pub single : r .width ≤ 1 → a .latch ≡ noneLatched

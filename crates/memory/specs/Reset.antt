@@ -1,5 +1,5 @@
--- What RESET MEMORY BANK leaves of the store, in numbers: half-sentence by half-sentence, without the tests by which the
--- definition chooses. Paper 01, "Commands obeyed". Proved in proofs/Resets.antt and proofs/ResetSettled.antt.
+-- What RESET MEMORY BANK leaves of the store, in numbers: half-sentence by half-sentence, without the tests by which
+-- the definition chooses. Paper 01, "Commands obeyed". Proved in proofs/Resets.antt and proofs/ResetSettled.antt.
 -- Assumes nothing.
 use mathlib.Core.Path.{_≡_}
 use mathlib.Core.Logic.{_⊎_}

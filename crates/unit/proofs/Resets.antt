@@ -99,9 +99,10 @@ module _ (rs : List Record) (s : State) (heard : Heard) (dtr0 : ℕ) where
 
 pub reset-due : ResetDue
 unfolding dueOf
-reset-due rs s heard dtr0 =
-    (λ e. due-pair rs s heard dtr0 (meaningOf (s .who) (heard .frame)) refl (is-reset rs s heard dtr0 _ e),
-    pair-due rs s heard dtr0)
+reset-due rs s heard dtr0 = (
+  λ e. due-pair rs s heard dtr0 (meaningOf (s .who) (heard .frame)) refl (is-reset rs s heard dtr0 _ e),
+  pair-due rs s heard dtr0,
+)
 
 pub step-resets : StepResets
 unfolding frameOf done

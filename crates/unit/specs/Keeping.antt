@@ -1,5 +1,5 @@
--- What start, power-on and frame steps keep: other values, bytes under no record, and every rule; and what a power-on and
--- a RESET MEMORY BANK put. Paper 01, "Map, store, reset image", "State and clock" and "Commands obeyed". Proved in
+-- What start, power-on and frame steps keep: other values, bytes under no record, and every rule; and what a power-on
+-- and a RESET MEMORY BANK put. Paper 01, "Map, store, reset image", "State and clock" and "Commands obeyed". Proved in
 -- proofs/Accepted.antt and proofs/Resets.antt.
 -- Assumes nothing.
 use Prim.Native.Nat.{ℕ, _<_, _≤_}

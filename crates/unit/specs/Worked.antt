@@ -1,6 +1,6 @@
 -- Worked runs of the bench unit: each listed command, and the errors that fitters have seen, with what is written for
--- each frame and the store at the end; then runs of a unit with two banks, for RESET MEMORY BANK and the latch. Two tables,
--- each with one statement. Proved in proofs/Worked.antt.
+-- each frame and the store at the end; then runs of a unit with two banks, for RESET MEMORY BANK and the latch. Two
+-- tables, each with one statement. Proved in proofs/Worked.antt.
 -- Assumes nothing.
 use Prim.Native.Nat.{ℕ}
 use mathlib.Core.Path.{_≡_}
@@ -219,19 +219,19 @@ abbrev two : List ℕ → List ℕ → List ℕ → TwoRun
 two sends writes leaves = record { sends = sends; writes = writes; leaves = leaves }
 
 -- the start sets both lock bytes 0xFF and takes bank 2's value, which is RAM-RW, from the image
-abbrev twoRun : TwoRun → Run
-twoRun c = runOf twoBanks (twoStore 0x55 0x11 0x12 0x55 0x21 0x22) twoImage benchWho (sent (c .sends))
+abbrev runOfTwo : TwoRun → Run
+runOfTwo c = runOf twoBanks (twoStore 0x55 0x11 0x12 0x55 0x21 0x22) twoImage benchWho (sent (c .sends))
 
 abbrev enable : List ℕ
 enable = 0x0BFE15 ∷ 0x0BFE15 ∷ []
 
 -- the lock byte of bank 1 is set 0x55
-abbrev first : List ℕ
-first = 0xC70102 ∷ 0xC12055 ∷ []
+abbrev unlockFirst : List ℕ
+unlockFirst = 0xC70102 ∷ 0xC12055 ∷ []
 
 -- that of bank 2, and its value written
-abbrev second : List ℕ
-second = 0xC70202 ∷ 0xC12055 ∷ 0xC50321 ∷ 0xC12022 ∷ []
+abbrev unlockSecond : List ℕ
+unlockSecond = 0xC70202 ∷ 0xC12055 ∷ 0xC50321 ∷ 0xC12022 ∷ []
 
 -- what is written for these
 abbrev firstAnswered : List ℕ
@@ -251,16 +251,16 @@ resets sends frame writes leaves = two (enable ++ sends ++ reset frame) (none ++
 abbrev pub twoRuns : List TwoRun
 twoRuns =
     -- both unlocked: RESET with DTR0 0 resets both, with DTR0 1 or 2 that bank and no other
-    resets (first ++ second) 0xC13000 (firstAnswered ++ secondAnswered) (twoStore 0xFF 0x31 0x32 0xFF 0x41 0x42)
-    ∷ resets (first ++ second) 0xC13001 (firstAnswered ++ secondAnswered) (twoStore 0xFF 0x31 0x32 0x55 0x21 0x22)
-    ∷ resets (first ++ second) 0xC13002 (firstAnswered ++ secondAnswered) (twoStore 0x55 0x11 0x12 0xFF 0x41 0x42)
+    resets (unlockFirst ++ unlockSecond) 0xC13000 (firstAnswered ++ secondAnswered) (twoStore 0xFF 0x31 0x32 0xFF 0x41 0x42)
+    ∷ resets (unlockFirst ++ unlockSecond) 0xC13001 (firstAnswered ++ secondAnswered) (twoStore 0xFF 0x31 0x32 0x55 0x21 0x22)
+    ∷ resets (unlockFirst ++ unlockSecond) 0xC13002 (firstAnswered ++ secondAnswered) (twoStore 0x55 0x11 0x12 0xFF 0x41 0x42)
     -- bank 1 is locked: it stays
-    ∷ resets second 0xC13000 secondAnswered (twoStore 0xFF 0x11 0x12 0xFF 0x41 0x42)
-    ∷ resets second 0xC13001 secondAnswered (twoStore 0xFF 0x11 0x12 0x55 0x21 0x22)
-    -- bank 1's value is latched and reset; a later byte of bank 2's value is answered from the store, and one of bank 1's
-    -- from the latch until a single byte is read
+    ∷ resets unlockSecond 0xC13000 secondAnswered (twoStore 0xFF 0x11 0x12 0xFF 0x41 0x42)
+    ∷ resets unlockSecond 0xC13001 secondAnswered (twoStore 0xFF 0x11 0x12 0x55 0x21 0x22)
+    -- bank 1's value is latched and reset; a later byte of bank 2's value is answered from the store, and one of bank
+    -- 1's from the latch until a single byte is read
     ∷ two
-    ((0xC70103 ∷ 0x0BFE3C ∷ []) ++ enable ++ first ++ reset 0xC13001
+    ((0xC70103 ∷ 0x0BFE3C ∷ []) ++ enable ++ unlockFirst ++ reset 0xC13001
     ++ 0xC70204 ∷ 0x0BFE3C ∷ 0xC70104 ∷ 0x0BFE3C ∷ 0xC70102 ∷ 0x0BFE3C ∷ 0xC70104 ∷ 0x0BFE3C ∷ [])
     (none ++ answer 0x11 ++ none ++ none ++ firstAnswered ++ quietly
     ++ none ++ answer 0x42 ++ none ++ answer 0x12 ++ none ++ answer 0xFF ++ none ++ answer 0x32)
@@ -270,5 +270,5 @@ twoRuns =
 -- each run writes and leaves what its line says
 unfoldable pub TwoBanksHold : Type 0
 TwoBanksHold =
-    (map (λ c. twoRun c .output) twoRuns ≡ map (λ c. c .writes) twoRuns)
-    × (map (λ c. twoRun c .store) twoRuns ≡ map (λ c. c .leaves) twoRuns)
+    (map (λ c. runOfTwo c .output) twoRuns ≡ map (λ c. c .writes) twoRuns)
+    × (map (λ c. runOfTwo c .store) twoRuns ≡ map (λ c. c .leaves) twoRuns)

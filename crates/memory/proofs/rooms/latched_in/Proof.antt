@@ -14,5 +14,5 @@ latched-in-spec =
     (λ c. search needs)
     (λ c κs. search needs)
     (λ c. search needs)
-    (λ c. rw (c .before .before .before .before .before .value .given .1) (cc))
+    (λ c. rw (c .before .before .before .before .before .value .given .1, ← c .before .is-zero-from .ensures))
     (λ c. rw (c .enum-told .given .1)))

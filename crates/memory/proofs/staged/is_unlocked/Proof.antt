@@ -9,4 +9,4 @@ pub is-unlocked-spec : {M : Type 1} → statement M
 unfolding unlocked
 is-unlocked-spec = tie.close (tie.spec
     (λ c κs. search needs)
-    (λ c. cc))
+    (λ c. rw (← c .before .lock-byte .ensures)))
