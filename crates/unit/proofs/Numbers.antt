@@ -67,7 +67,7 @@ pub calls-accepted : CallsAccepted
 unfolding startOf powerOnOf stepOf
 calls-accepted map store image =
     record {
-      start = λ who e. accepting zeroState store (powerOf (recordsOf map) store image (withWho zeroState who)) _ e;
+      start = λ who e. accepting _ store (powerOf (recordsOf map) store image (withWho zeroState who)) _ e;
       power-on = λ s e. accepting s store (powerOf (recordsOf map) store image s) _ e;
       step = λ s heard e. accepting s store (frameOf (recordsOf map) store image s heard) _ e;
     }
@@ -76,7 +76,7 @@ pub calls-reply : CallsReply
 unfolding startOf powerOnOf stepOf powerOf quiet
 calls-reply map store image =
     record {
-      start = λ who. unless-number zeroState store (powerOf (recordsOf map) store image (withWho zeroState who)) _ refl;
+      start = λ who. unless-number _ store (powerOf (recordsOf map) store image (withWho zeroState who)) _ refl;
       power-on = λ s. unless-number s store (powerOf (recordsOf map) store image s) _ refl;
       step = λ s heard.
           unless-number s store (frameOf (recordsOf map) store image s heard) _
