@@ -240,6 +240,12 @@ firstAnswered = none ++ answer 0x55
 abbrev secondAnswered : List ℕ
 secondAnswered = none ++ answer 0x55 ++ answer 0x21 ++ answer 0x22
 
+abbrev unlockBoth : List ℕ
+unlockBoth = unlockFirst ++ unlockSecond
+
+abbrev bothAnswered : List ℕ
+bothAnswered = firstAnswered ++ secondAnswered
+
 -- DTR0, and RESET MEMORY BANK twice
 abbrev reset : ℕ → List ℕ
 reset frame = frame ∷ 0x0BFE11 ∷ 0x0BFE11 ∷ []
@@ -251,9 +257,9 @@ resets sends frame writes leaves = two (enable ++ sends ++ reset frame) (none ++
 abbrev pub twoRuns : List TwoRun
 twoRuns =
     -- both unlocked: RESET with DTR0 0 resets both, with DTR0 1 or 2 that bank and no other
-    resets (unlockFirst ++ unlockSecond) 0xC13000 (firstAnswered ++ secondAnswered) (twoStore 0xFF 0x31 0x32 0xFF 0x41 0x42)
-    ∷ resets (unlockFirst ++ unlockSecond) 0xC13001 (firstAnswered ++ secondAnswered) (twoStore 0xFF 0x31 0x32 0x55 0x21 0x22)
-    ∷ resets (unlockFirst ++ unlockSecond) 0xC13002 (firstAnswered ++ secondAnswered) (twoStore 0x55 0x11 0x12 0xFF 0x41 0x42)
+    resets unlockBoth 0xC13000 bothAnswered (twoStore 0xFF 0x31 0x32 0xFF 0x41 0x42)
+    ∷ resets unlockBoth 0xC13001 bothAnswered (twoStore 0xFF 0x31 0x32 0x55 0x21 0x22)
+    ∷ resets unlockBoth 0xC13002 bothAnswered (twoStore 0x55 0x11 0x12 0xFF 0x41 0x42)
     -- bank 1 is locked: it stays
     ∷ resets unlockSecond 0xC13000 secondAnswered (twoStore 0xFF 0x11 0x12 0xFF 0x41 0x42)
     ∷ resets unlockSecond 0xC13001 secondAnswered (twoStore 0xFF 0x11 0x12 0x55 0x21 0x22)
