@@ -1,20 +1,20 @@
 // Records on standard input, as they come, and what is written for them.
-ghost use Prim.Native.Nat.{_*_, _<_, _≤_};
+ghost use mathlib.Core.Path.{_≡_};
+ghost use mathlib.Core.Bool.{false};
+ghost use Prim.Native.Nat.{_*_, _≤_};
 ghost use lib.ListN.{length};
 ghost use Rattle.io.specs.Counts.{Counts};
+ghost use Rattle.tracing.specs.Flow.{Flows};
 use libc::STDERR_FILENO;
 use libc::STDIN_FILENO;
 use libc::STDOUT_FILENO;
 use rooms::State;
+use tracing::Flow;
 
-// Between two reads: the state, how many bytes of an unfinished record wait at the front of the input, whether one is
-// left at the end, whether all that was due is written, and whether to read on.
-struct Flow {
-    state: State,
-    kept: usize,
-    unfinished: bool,
+// Between two reads: where the trace stands, and whether all that was due is written.
+struct Turned {
+    flow: Flow,
     written: bool,
-    goes_on: bool,
 }
 
 // A program has no status of its own to end with: what it could not do it says on standard error.
@@ -63,22 +63,16 @@ fn trace_some(
     flow: Flow,
     input: &mut [u8],
     output: &mut [u8],
-) -> Flow
-    requires { ⌜ flow .kept ≤ length (now input) ⌝ }
-    ensures { λ r. ⌜ r .kept < 8 ⌝ }
+) -> Turned
+    requires { ⌜ (flow .ended ≡ false) × (flow .kept ≤ length (now input)) × (length (now input) ≤ length (now output)) ⌝ }
+    ensures { λ r. ⌜ Flows (r .flow) ⌝ }
 {
-    let state = flow.state;
     let filled = read_more(input, flow.kept);
-    let ran = tracing::run(map, store, image, state, &input[..filled], output);
-    let written = write_answers(output, ran.count);
-    let after = ran.state;
-    let kept = entries::keep_rest(input, filled);
-    Flow {
-        state: after,
-        kept: kept,
-        unfinished: (kept > 0) & !ran.ended,
+    let next = tracing::go_on(map, store, image, flow, input, filled, output);
+    let written = write_answers(output, next.count);
+    Turned {
+        flow: next,
         written: written,
-        goes_on: (filled > flow.kept) & !ran.ended & written,
     }
 }
 
@@ -95,19 +89,23 @@ fn write_end(unfinished: bool, written: bool) -> bool {
 fn trace_all(map: &[u8], store: &mut [u8], image: &[u8], state: State) -> bool {
     let mut input = io::large_buffer();
     let mut output = io::large_buffer();
-    let mut flow = Flow {
-        state: state,
-        kept: 0,
-        unfinished: false,
+    let mut turned = Turned {
+        flow: tracing::begin(state),
         written: true,
-        goes_on: true,
     };
     let mut turns = u64::MAX;
-    while turns > 0 && flow.goes_on {
-        flow = trace_some(map, store, image, flow, &mut input, &mut output);
+    while turns > 0 && turned.flow.more && turned.written {
+        turned = trace_some(
+            map,
+            store,
+            image,
+            turned.flow,
+            &mut input,
+            &mut output,
+        );
         turns -= 1;
     }
-    write_end(flow.unfinished, flow.written)
+    write_end(turned.flow.unfinished, turned.written)
 }
 
 // A refused start writes its 4 bytes only. Last the store is written.

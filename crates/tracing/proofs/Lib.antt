@@ -3,6 +3,8 @@ pub mod Cutting
 pub mod Checks
 pub mod Starts
 pub mod Settled
+pub mod Flowing
+pub mod InReads
 pub mod Bench
 pub mod Written
 pub mod Turning
