@@ -62,6 +62,7 @@ use Rattle.tracing.proofs.Continued.{four-each, thirteen-ends, one-after-other}
 use Rattle.tracing.proofs.Checks.{one-check}
 use Rattle.tracing.proofs.Cutting.{cut-anywhere}
 use Rattle.tracing.proofs.Settled.{run-settled, who-settled}
+use Rattle.tracing.proofs.InReads.{read-anyhow, go-on-reads, closed-by-flag, go-on-settled}
 use Rattle.packing.proofs.Round.{state-back, bytes-back}
 use Rattle.packing.proofs.Cases.{cases as packing-cases}
 use Rattle.packing.proofs.Settled.{settled}
@@ -194,6 +195,9 @@ trace-program = record {
   one-check = one-check;
   one-after-other = one-after-other;
   cut-anywhere = cut-anywhere;
+  read-anyhow = read-anyhow;
+  one-read-more = go-on-reads;
+  closed-by-flag = closed-by-flag;
   rest-is-kept = rest-kept;
 }
 
@@ -238,6 +242,7 @@ judging = record {
   four-bytes-settled = four-bytes-settled;
   rest-settled = rest-settled;
   run-settled = run-settled;
+  go-on-settled = go-on-settled;
   who-settled = who-settled;
   files-settled = files-settled;
   packing-settled = settled;

@@ -50,6 +50,7 @@ use Rattle.history.specs.Use.{AlwaysWhole, RefusedExactly, RefusedChangeNothing
 use Rattle.tracing.specs.Bench.{BenchFiles, BenchTraces}
 use Rattle.tracing.specs.Promises.{FilesNumbered, OneByteMore, FourEach, ThirteenEnds, OneCheck, OneAfterOther}
 use Rattle.tracing.specs.Promises.{CutAnywhere, RunSettled, WhoSettled, FilesSettled}
+use Rattle.tracing.specs.Reads.{ReadAnyhow, GoOnReads, ClosedByFlag, GoOnSettled}
 use Rattle.packing.specs.Promises.{StateBack, BytesBack, Settled}
 use Rattle.packing.specs.Cases.{Cases as PackingCases}
 use Rattle.faces.specs.Promises.{Settled as FacesSettled, RepliesBack, LooksBack, WritingsBack}
@@ -271,6 +272,12 @@ pub record TraceProgram : Type 0 where
   pub one-after-other : OneAfterOther
   -- however the input is cut, the trace is the same
   pub cut-anywhere : CutAnywhere
+  -- and however many bytes each read gives
+  pub read-anyhow : ReadAnyhow
+  -- what the program does with a read is one read more
+  pub one-read-more : GoOnReads
+  -- "the store still follows": behind 13's four bytes if an unfinished record is left
+  pub closed-by-flag : ClosedByFlag
   -- what is read of an unfinished record waits for its other bytes
   pub rest-is-kept : RestKept
 
@@ -344,6 +351,8 @@ pub record Judging : Type 0 where
   pub rest-settled : RestSettled
   -- of a run: count, state, store and output
   pub run-settled : RunSettled
+  -- of a read of the trace program
+  pub go-on-settled : GoOnSettled
   -- of unit.adr
   pub who-settled : WhoSettled
   -- of the number of the files
