@@ -95,14 +95,7 @@ fn trace_all(map: &[u8], store: &mut [u8], image: &[u8], state: State) -> bool {
     };
     let mut turns = u64::MAX;
     while turns > 0 && turned.flow.more && turned.written {
-        turned = trace_some(
-            map,
-            store,
-            image,
-            turned.flow,
-            &mut input,
-            &mut output,
-        );
+        turned = trace_some(map, store, image, turned.flow, &mut input, &mut output);
         turns -= 1;
     }
     write_end(turned.flow.unfinished, turned.written)

@@ -134,8 +134,7 @@ go-on-reads map image flow next store after input left filled output answers g h
     let cut : ℕ = filled - next .kept in
     let many = g .keeps .many in
     let long : length (take filled input) ≡ filled = length-take-le filled input h in
-    let same : cut ≡ length (take filled input) - length (take filled input) % 8 = omega arith in
-    (
+    let same : cut ≡ length (take filled input) - length (take filled input) % 8 = omega arith in (
       g .traces (b .trace .output) ∙ rw (s, e),
       sym (drop-at (take cut input) (take (next .kept) left) cut (length-take-le cut input (omega arith)))
           ∙ ap (drop cut) (rest-kept (next .kept) input left filled h (g .keeps) .all)
@@ -174,8 +173,7 @@ go-on-settled map image flow q r store input filled output after stored left kep
       length-take-le (4 * r .count) written (s .within),
     ) in
     let ends : q .ended ≡ r .ended = ap (λ (x : Traced). x .ended) t in
-    let keeps = rest-settled input filled (q .kept) (r .kept) left kept (p .keeps) (s .keeps) in
-    (
+    let keeps = rest-settled input filled (q .kept) (r .kept) left kept (p .keeps) (s .keeps) in (
       flow-is q r (ap (λ (x : Traced). x .state) t) (keeps .0) counts ends
           (p .unfinished ∙ rw (keeps .0, ends, ← s .unfinished)) (p .more ∙ rw (ends, ← s .more)),
       ap (λ (x : Traced). x .store) t,
