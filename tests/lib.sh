@@ -35,3 +35,27 @@ second_program() {
 
 # c_tools: the compiler whose programs link our archive
 c_tools() { if [ "$(uname -m)" = x86_64 ]; then need gcc gcc; else need x86_64-linux-gnu-gcc gcc-x86-64-linux-gnu; fi; }
+
+# copy NAME: the crates, copied to a folder of this name in the test's room, which is then the working folder; what is proved already,
+# and did not change, is not proved again there. `root` is the repository's folder
+copy() {
+    mkdir "$room/$1" && cp -R "$root/crates" "$root/crates.txt" "$room/$1/" || exit 1
+    if [ -d "$root/target" ]; then
+        mkdir "$room/$1/target"
+        for part in rlib stamp; do [ ! -d "$root/target/$part" ] || cp -R "$root/target/$part" "$room/$1/target/"; done
+    fi
+    cd "$room/$1" || exit 1
+}
+
+# each_refused NAME..: each of these functions, side by side in copies of their own, sees its error refused; what it says is shown
+each_refused() {
+    for error; do
+        ("$error" >"$room/$error.said" 2>&1 && echo refused >"$room/$error.res") &
+    done
+    wait
+    for error; do
+        expect "the error $error is refused" said "$error"
+    done
+}
+
+said() { cat "$room/$1.said" && [ -f "$room/$1.res" ]; }

@@ -95,7 +95,7 @@ head-stays rs s t r h = go (isHead r) refl
 
 pub check-stays : CheckStays
 unfolding checkNumber headBytesHold
-check-stays map s t kept n h =
+check-stays map s t size n h =
     rw (
       n,
       every-same (headHolds (recordsOf map) s) (headHolds (recordsOf map) t) (recordsOf map)
@@ -103,7 +103,7 @@ check-stays map s t kept n h =
     )
 
 pub check-stays-put : CheckStaysPut
-check-stays-put map store bytes kept r p m w k =
+check-stays-put map store bytes size r p m w k =
     let put = value-put map store bytes r p m w in
-    check-stays map (putValue r bytes store) store kept (put .as-long)
+    check-stays map (putValue r bytes store) store size (put .as-long)
     (λ s i h. put .others s i (λ e. k (ap (λ (x : Record). x .first) (sym e) ∙ single-head s h .0)))

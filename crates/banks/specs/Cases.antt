@@ -11,8 +11,8 @@ use Rattle.records.specs.Cases.{row, head, lock, with}
 use Rattle.banks.specs.Rules.{checkNumber}
 
 -- a store whose first byte is the one at 0x00, and n bytes after it
-abbrev pub stored : ℕ → ℕ → List ℕ
-stored byte n = byte ∷ replicate n 0
+abbrev pub storeWith : ℕ → ℕ → List ℕ
+storeWith byte n = byte ∷ replicate n 0
 
 -- bank 2 with nothing behind its lock byte, and bank 3 with a value at 0xFE; their bytes at 0x00 are at places 0 and 2
 abbrev pub twoBanks : List ℕ
@@ -21,62 +21,62 @@ twoBanks = head 2 ++ lock 2 ++ row 3 0x00 1 0 0 0 0 2 ++ row 3 0x02 1 2 0 0 0 3 
 pub record CheckCase : Type 0 where
   pub records : List ℕ
   pub store : List ℕ
-  pub kept : ℕ
+  pub size : ℕ
   pub number : ℕ
 
 abbrev checked : List ℕ → List ℕ → ℕ → CheckCase
-checked records store number = record { records = records; store = store; kept = length store; number = number }
+checked records store number = record { records = records; store = store; size = length store; number = number }
 
 abbrev pub checkCases : List CheckCase
 checkCases =
     checked benchMap benchStore 0
     ∷ checked [] [] 0
     -- the boundaries of 7 to 9, from within
-    ∷ checked (head 199 ++ lock 199) (stored 3 1) 0
-    ∷ checked (with (row 2 0x03 1 4 0 0 0 2)) (stored 20 20) 0
-    ∷ checked (with (row 2 0x03 8 4 0 0 0 2)) (stored 20 20) 0
-    ∷ checked (with (row 2 0xFE 1 4 0 0 0 2)) (stored 254 20) 0
-    ∷ checked (with (row 2 0xF7 8 4 0 0 0 2)) (stored 254 20) 0
-    ∷ checked (with (row 2 0x03 1 2 1 0 0 2)) (stored 20 20) 0
-    ∷ checked (head 2 ++ lock 2 ++ row 3 0x00 1 0 0 0 0 2 ++ row 3 0x02 1 2 0 0 0 3) (20 ∷ 0 ∷ stored 20 20) 0
-    ∷ checked (with (row 2 0x03 4 4 0 0 0 2 ++ row 2 0x07 1 4 0 0 0 6)) (stored 20 20) 0
+    ∷ checked (head 199 ++ lock 199) (storeWith 3 1) 0
+    ∷ checked (with (row 2 0x03 1 4 0 0 0 2)) (storeWith 20 20) 0
+    ∷ checked (with (row 2 0x03 8 4 0 0 0 2)) (storeWith 20 20) 0
+    ∷ checked (with (row 2 0xFE 1 4 0 0 0 2)) (storeWith 254 20) 0
+    ∷ checked (with (row 2 0xF7 8 4 0 0 0 2)) (storeWith 254 20) 0
+    ∷ checked (with (row 2 0x03 1 2 1 0 0 2)) (storeWith 20 20) 0
+    ∷ checked (head 2 ++ lock 2 ++ row 3 0x00 1 0 0 0 0 2 ++ row 3 0x02 1 2 0 0 0 3) (20 ∷ 0 ∷ storeWith 20 20) 0
+    ∷ checked (with (row 2 0x03 4 4 0 0 0 2 ++ row 2 0x07 1 4 0 0 0 6)) (storeWith 20 20) 0
     -- 10: lengths, 4,096 and 4,097 bytes, places outside and shared
-    ∷ record { records = benchMap; store = benchStore; kept = 7; number = 10 }
-    ∷ checked benchMap (stored 6 4095) 0
-    ∷ checked benchMap (stored 6 4096) 10
-    ∷ checked benchMap (stored 6 4) 10
-    ∷ checked (with (row 2 0x03 1 4 0 0 1 0)) (stored 20 256) 0
-    ∷ checked (with (row 2 0x03 1 4 0 0 1 0)) (stored 20 255) 10
-    ∷ checked (with (row 2 0x03 2 4 0 0 0 1)) (stored 20 20) 10
-    ∷ checked (with (row 2 0x03 4 4 0 0 0 2 ++ row 2 0x07 1 4 0 0 0 5)) (stored 20 20) 10
-    ∷ checked (with (row 2 0x03 4 4 0 0 0 6 ++ row 2 0x07 4 4 0 0 0 3)) (stored 20 20) 10
-    ∷ checked (with (row 2 0x03 4 4 0 0 0 6 ++ row 2 0x07 4 4 0 0 0 2)) (stored 20 20) 0
+    ∷ record { records = benchMap; store = benchStore; size = 7; number = 10 }
+    ∷ checked benchMap (storeWith 6 4095) 0
+    ∷ checked benchMap (storeWith 6 4096) 10
+    ∷ checked benchMap (storeWith 6 4) 10
+    ∷ checked (with (row 2 0x03 1 4 0 0 1 0)) (storeWith 20 256) 0
+    ∷ checked (with (row 2 0x03 1 4 0 0 1 0)) (storeWith 20 255) 10
+    ∷ checked (with (row 2 0x03 2 4 0 0 0 1)) (storeWith 20 20) 10
+    ∷ checked (with (row 2 0x03 4 4 0 0 0 2 ++ row 2 0x07 1 4 0 0 0 5)) (storeWith 20 20) 10
+    ∷ checked (with (row 2 0x03 4 4 0 0 0 6 ++ row 2 0x07 4 4 0 0 0 3)) (storeWith 20 20) 10
+    ∷ checked (with (row 2 0x03 4 4 0 0 0 6 ++ row 2 0x07 4 4 0 0 0 2)) (storeWith 20 20) 0
     -- 11: the record at 0x00 and its byte
-    ∷ checked (lock 2) (stored 20 20) 11
-    ∷ checked (row 2 0x01 1 0 0 0 0 0 ++ lock 2) (stored 20 20) 11
-    ∷ checked (row 2 0x00 2 0 0 0 0 2 ++ lock 2) (stored 20 20) 11
-    ∷ checked (row 2 0x00 1 1 0 0 0 0 ++ lock 2) (stored 20 20) 11
-    ∷ checked (head 2 ++ lock 2) (stored 2 1) 11
-    ∷ checked (head 2 ++ lock 2) (stored 3 1) 0
-    ∷ checked (head 2 ++ lock 2) (stored 254 1) 0
-    ∷ checked (head 2 ++ lock 2) (stored 255 1) 11
-    ∷ checked benchMap (stored 5 5) 11
-    ∷ checked benchMap (stored 6 5) 0
+    ∷ checked (lock 2) (storeWith 20 20) 11
+    ∷ checked (row 2 0x01 1 0 0 0 0 0 ++ lock 2) (storeWith 20 20) 11
+    ∷ checked (row 2 0x00 2 0 0 0 0 2 ++ lock 2) (storeWith 20 20) 11
+    ∷ checked (row 2 0x00 1 1 0 0 0 0 ++ lock 2) (storeWith 20 20) 11
+    ∷ checked (head 2 ++ lock 2) (storeWith 2 1) 11
+    ∷ checked (head 2 ++ lock 2) (storeWith 3 1) 0
+    ∷ checked (head 2 ++ lock 2) (storeWith 254 1) 0
+    ∷ checked (head 2 ++ lock 2) (storeWith 255 1) 11
+    ∷ checked benchMap (storeWith 5 5) 11
+    ∷ checked benchMap (storeWith 6 5) 0
     -- 11: two banks, each byte against the highest location of its own bank; and the two bytes exchanged
-    ∷ checked twoBanks (3 ∷ 0 ∷ stored 254 2) 0
-    ∷ checked twoBanks (254 ∷ 0 ∷ stored 3 2) 11
+    ∷ checked twoBanks (3 ∷ 0 ∷ storeWith 254 2) 0
+    ∷ checked twoBanks (254 ∷ 0 ∷ storeWith 3 2) 11
     -- 11: the lock byte, and bank 0
-    ∷ checked (head 2) (stored 20 20) 11
-    ∷ checked (head 1 ++ row 1 0x03 1 4 0 0 0 2) (stored 20 20) 11
-    ∷ checked (head 2 ++ row 2 0x02 2 2 0 0 0 1) (stored 20 20) 11
-    ∷ checked (head 2 ++ row 2 0x02 1 4 0 0 0 1) (stored 20 20) 11
-    ∷ checked (head 2 ++ row 2 0x02 1 2 1 0 0 1) (stored 20 20) 11
-    ∷ checked (head 0) (stored 3 1) 0
-    ∷ checked (head 0 ++ row 0 0x02 1 1 0 0 0 1 ++ row 0 0x03 1 3 0 0 0 2) (stored 3 2) 0
-    ∷ checked (head 0 ++ row 0 0x02 1 2 0 0 0 1) (stored 3 1) 11
-    ∷ checked (head 0 ++ row 0 0x03 1 4 0 0 0 1) (stored 3 1) 11
+    ∷ checked (head 2) (storeWith 20 20) 11
+    ∷ checked (head 1 ++ row 1 0x03 1 4 0 0 0 2) (storeWith 20 20) 11
+    ∷ checked (head 2 ++ row 2 0x02 2 2 0 0 0 1) (storeWith 20 20) 11
+    ∷ checked (head 2 ++ row 2 0x02 1 4 0 0 0 1) (storeWith 20 20) 11
+    ∷ checked (head 2 ++ row 2 0x02 1 2 1 0 0 1) (storeWith 20 20) 11
+    ∷ checked (head 0) (storeWith 3 1) 0
+    ∷ checked (head 0 ++ row 0 0x02 1 1 0 0 0 1 ++ row 0 0x03 1 3 0 0 0 2) (storeWith 3 2) 0
+    ∷ checked (head 0 ++ row 0 0x02 1 2 0 0 0 1) (storeWith 3 1) 11
+    ∷ checked (head 0 ++ row 0 0x03 1 4 0 0 0 1) (storeWith 3 1) 11
     -- two rules broken: the lower number
-    ∷ checked (0 ∷ []) (stored 0 4096) 7
+    ∷ checked (0 ∷ []) (storeWith 0 4096) 7
     ∷ checked (row 2 0x03 9 4 0 0 0 2 ++ head 2) [] 8
     ∷ checked (lock 2 ++ head 2) [] 9
     ∷ checked (lock 2) [] 10
@@ -84,4 +84,4 @@ checkCases =
 
 -- each case gets its number
 unfoldable pub CheckCases : Type 0
-CheckCases = map (λ c. checkNumber (c .records) (c .store) (c .kept)) checkCases ≡ map (λ c. c .number) checkCases
+CheckCases = map (λ c. checkNumber (c .records) (c .store) (c .size)) checkCases ≡ map (λ c. c .number) checkCases

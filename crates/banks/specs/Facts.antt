@@ -9,17 +9,17 @@ use lib.ListN.{length, getD}
 use Rattle.records.specs.Map.{recordsOf, placesEnd}
 use Rattle.records.specs.Order.{ordered}
 use Rattle.records.specs.Lookup.{holder}
-use Rattle.records.specs.Facts.{Member, Fielded, Holds}
+use Rattle.records.specs.Facts.{Member, FieldsHold, Holds}
 use Rattle.records.specs.declared.record.Record.{Record}
 use Rattle.records.specs.declared.holder.Found.the-variants.{At}
 use Rattle.banks.specs.Rules.{placed, banksHold, headBytesHold}
 use Rattle.banks.specs.Values.{valueOf, putValue, lockByte}
 
--- map, store and an image of `kept` bytes pass 7 to 11
-pub record Stands (map store : List ℕ) (kept : ℕ) : Type 0 where
+-- map, store and an image of `size` bytes pass 7 to 11
+pub record Stands (map store : List ℕ) (size : ℕ) : Type 0 where
   pub in-order : ordered map ≡ true
   pub in-place : placed map (length store) ≡ true
-  pub as-long : kept ≡ length store
+  pub as-long : size ≡ length store
   pub banks : banksHold (recordsOf map) ≡ true
   pub heads : headBytesHold (recordsOf map) store ≡ true
 
@@ -31,7 +31,7 @@ Apart p r = (placesEnd p ≤ r .offset) ⊎ (placesEnd r ≤ p .offset)
 pub record Within (map : List ℕ) (n bank location : ℕ) (r : Record) : Type 0 where
   pub member : Member r map
   pub holds : Holds r bank location
-  pub fields : Fielded r
+  pub fields : FieldsHold r
   pub inside : placesEnd r ≤ n
 
 -- 11: the bank's lock byte
@@ -44,7 +44,7 @@ pub record LockRecord (map : List ℕ) (bank : ℕ) (r : Record) : Type 0 where
   pub no-lock : r .lockable ≡ 0
 
 -- the bytes of the value r, put into the store
-pub record Put (map store bytes : List ℕ) (r : Record) : Type 0 where
+pub record PutLeaves (map store bytes : List ℕ) (r : Record) : Type 0 where
   -- they are that value's bytes
   pub there : valueOf r (putValue r bytes store) ≡ bytes
   -- every other value stays

@@ -16,19 +16,19 @@ use Rattle.records.specs.declared.record.Record.{Record}
 use Rattle.records.specs.declared.holder.Found.the-variants.{At}
 use Rattle.banks.specs.Rules.{placed, isHead, banksHold, checkTests, checkNumber}
 use Rattle.banks.specs.Values.{valueOf, putValue}
-use Rattle.banks.specs.Facts.{Stands, Apart, Within, LockRecord, Put}
+use Rattle.banks.specs.Facts.{Stands, Apart, Within, LockRecord, PutLeaves}
 
 -- The numbers.
 
 -- 7 to 11 are given exactly if every test before passes and that one fails
 abbrev pub CheckNumbers : Type 0
 CheckNumbers =
-    (map store : List ℕ) (kept n : ℕ) → 0 < n
-    → (checkNumber map store kept ≡ n) ↔ Given (checkTests map store kept) n
+    (map store : List ℕ) (size n : ℕ) → 0 < n
+    → (checkNumber map store size ≡ n) ↔ Given (checkTests map store size) n
 
 -- 0 is given exactly if everything stands
 abbrev pub CheckStands : Type 0
-CheckStands = (map store : List ℕ) (kept : ℕ) → (checkNumber map store kept ≡ 0) ↔ Stands map store kept
+CheckStands = (map store : List ℕ) (size : ℕ) → (checkNumber map store size ≡ 0) ↔ Stands map store size
 
 -- The places of the records.
 
@@ -66,21 +66,21 @@ WritableBank =
 abbrev pub ValuePut : Type 0
 ValuePut =
     (map store bytes : List ℕ) (r : Record) → placed map (length store) ≡ true → Member r map → length bytes ≡ r .width
-    → Put map store bytes r
+    → PutLeaves map store bytes r
 
 -- two stores of one length that agree on the bytes at 0x00 get the same number
 abbrev pub CheckStays : Type 0
 CheckStays =
-    (map s t : List ℕ) (kept : ℕ) → length s ≡ length t
+    (map s t : List ℕ) (size : ℕ) → length s ≡ length t
     → ((r : Record) → Member r map → isHead r ≡ true → valueOf r s ≡ valueOf r t)
-    → checkNumber map s kept ≡ checkNumber map t kept
+    → checkNumber map s size ≡ checkNumber map t size
 
 -- so a value that is not at 0x00 may change: what was checked once stays checked
 abbrev pub CheckStaysPut : Type 0
 CheckStaysPut =
-    (map store bytes : List ℕ) (kept : ℕ) (r : Record) → placed map (length store) ≡ true → Member r map
+    (map store bytes : List ℕ) (size : ℕ) (r : Record) → placed map (length store) ≡ true → Member r map
     → length bytes ≡ r .width → (r .first ≡ 0x00 → ⊥)
-    → checkNumber map (putValue r bytes store) kept ≡ checkNumber map store kept
+    → checkNumber map (putValue r bytes store) size ≡ checkNumber map store size
 
 -- What the public call promises of its result r; answers that meet the same promise are equal.
 

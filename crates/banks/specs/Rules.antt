@@ -13,9 +13,9 @@ use Rattle.records.specs.Map.{recordsOf, writable, locationsEnd, placesEnd}
 use Rattle.records.specs.Order.{ordered, orderTests}
 use Rattle.records.specs.declared.record.Record.{Record}
 
--- 10: equally long, 0 to 4,096 bytes
+-- 10: a store of n bytes and an image of `size` bytes: equally long, 0 to 4,096 bytes
 unfoldable pub lengthsHold : ℕ → ℕ → Bool
-lengthsHold stored kept = eqb stored kept && leb stored 4096
+lengthsHold n size = eqb n size && leb n 4096
 
 -- 10: a place lies inside a store of n bytes
 abbrev pub inside : ℕ → Record → Bool
@@ -30,7 +30,7 @@ disjoint [] = true
 disjoint (r ∷ rs) = every (clear r) rs && disjoint rs
 
 unfoldable pub placesHold : List Record → ℕ → ℕ → Bool
-placesHold rs stored kept = lengthsHold stored kept && (every (inside stored) rs && disjoint rs)
+placesHold rs n size = lengthsHold n size && (every (inside n) rs && disjoint rs)
 
 -- 11: the record of width 1 and kind ROM at 0x00
 abbrev pub isHead : Record → Bool
@@ -53,9 +53,9 @@ bankHolds rs r =
 unfoldable pub banksHold : List Record → Bool
 banksHold rs = every (bankHolds rs) rs
 
--- 11: a record of the bank ends at or before the location
+-- 11: a record of the bank ends at or before its last location, as the byte says it
 abbrev pub endsBy : ℕ → ℕ → Record → Bool
-endsBy bank location r = not (eqb (r .bank) bank) || leb (locationsEnd r) (location + 1)
+endsBy bank last r = not (eqb (r .bank) bank) || leb (locationsEnd r) (last + 1)
 
 -- 11, the stored byte at 0x00: 3..254 and not below the bank's highest mapped location
 unfoldable pub headByteHolds : List Record → ℕ → ℕ → Bool
@@ -69,7 +69,7 @@ headBytesHold rs store = every (headHolds rs store) rs
 
 -- 10, of a store and an image of so many bytes
 abbrev pub placeTests : List ℕ → ℕ → ℕ → List Test
-placeTests map stored kept = test 10 (placesHold (recordsOf map) stored kept) ∷ []
+placeTests map n size = test 10 (placesHold (recordsOf map) n size) ∷ []
 
 -- 11
 abbrev pub bankTests : List ℕ → List ℕ → List Test
@@ -77,10 +77,10 @@ bankTests map store = test 11 (banksHold (recordsOf map) && headBytesHold (recor
 
 -- the tests of map, store and reset image, in paper 01's order: 7 to 9, 10, 11. Of the image only the length counts
 abbrev pub checkTests : List ℕ → List ℕ → ℕ → List Test
-checkTests map store kept = orderTests map ++ placeTests map (length store) kept ++ bankTests map store
+checkTests map store size = orderTests map ++ placeTests map (length store) size ++ bankTests map store
 
 unfoldable pub checkNumber : List ℕ → List ℕ → ℕ → ℕ
-checkNumber map store kept = firstFailing (checkTests map store kept)
+checkNumber map store size = firstFailing (checkTests map store size)
 
 -- what a touch of the store rests on: 7 to 10 hold for a store and an image of n bytes
 unfoldable pub placed : List ℕ → ℕ → Bool

@@ -23,10 +23,10 @@ use records::record_at;
 use records::records;
 
 // 10, of the lengths of store and image.
-fn lengths_hold(stored: usize, kept: usize) -> bool
-    ensures { λ b. ⌜ b ≡ lengthsHold stored kept ⌝ }
+fn lengths_hold(n: usize, size: usize) -> bool
+    ensures { λ b. ⌜ b ≡ lengthsHold n size ⌝ }
 {
-    (stored == kept) & (stored <= 4096)
+    (n == size) & (n <= 4096)
 }
 
 // 10, of one place in a store of n bytes.
@@ -95,11 +95,11 @@ fn are_disjoint(map: &[u8]) -> bool
 }
 
 // 10.
-fn places_hold(map: &[u8], stored: usize, kept: usize) -> bool
-    ensures { λ b. ⌜ b ≡ placesHold (recordsOf (now (map .entry))) stored kept ⌝ }
+fn places_hold(map: &[u8], n: usize, size: usize) -> bool
+    ensures { λ b. ⌜ b ≡ placesHold (recordsOf (now (map .entry))) n size ⌝ }
 {
-    let lengths = lengths_hold(stored, kept);
-    let within = all_inside(map, stored);
+    let lengths = lengths_hold(n, size);
+    let within = all_inside(map, n);
     let apart = are_disjoint(map);
     lengths & (within & apart)
 }
@@ -169,21 +169,21 @@ fn banks_hold(map: &[u8]) -> bool
     true
 }
 
-fn ends_by(r: Record, bank: u8, location: u8) -> bool
-    ensures { λ b. ⌜ b ≡ endsBy bank location r ⌝ }
+fn ends_by(r: Record, bank: u8, last: u8) -> bool
+    ensures { λ b. ⌜ b ≡ endsBy bank last r ⌝ }
 {
     let end = locations_end(r);
-    !(r.bank == bank) | (end <= location as usize + 1)
+    !(r.bank == bank) | (end <= last as usize + 1)
 }
 
-fn all_end_by(map: &[u8], bank: u8, location: u8) -> bool
-    ensures { λ b. ⌜ b ≡ every (endsBy bank location) (recordsOf (now (map .entry))) ⌝ }
+fn all_end_by(map: &[u8], bank: u8, last: u8) -> bool
+    ensures { λ b. ⌜ b ≡ every (endsBy bank last) (recordsOf (now (map .entry))) ⌝ }
 {
     let n = records(map);
     let mut i = 0;
     while i < n {
         let r = record_at(map, i);
-        if !ends_by(r, bank, location) {
+        if !ends_by(r, bank, last) {
             return false;
         }
         i += 1;
@@ -230,10 +230,10 @@ fn head_bytes_hold(map: &[u8], store: &[u8]) -> bool
 }
 
 // The number of 10, or 0.
-fn place_number(map: &[u8], stored: usize, kept: usize) -> u8
-    ensures { λ r. ⌜ r ≡ firstFailing (placeTests (now (map .entry)) stored kept) ⌝ }
+fn place_number(map: &[u8], n: usize, size: usize) -> u8
+    ensures { λ r. ⌜ r ≡ firstFailing (placeTests (now (map .entry)) n size) ⌝ }
 {
-    if !places_hold(map, stored, kept) {
+    if !places_hold(map, n, size) {
         return 10;
     }
     0
@@ -253,15 +253,15 @@ fn bank_number(map: &[u8], store: &[u8]) -> u8
     0
 }
 
-// Internal: the number of map, store and an image of `kept` bytes, for those who have no image at hand.
-pub fn check_number(map: &[u8], store: &[u8], kept: usize) -> u8
-    ensures { λ r. ⌜ r ≡ checkNumber (now (map .entry)) (now (store .entry)) kept ⌝ }
+// Internal: the number of map, store and an image of `size` bytes, for those who have no image at hand.
+pub fn check_number(map: &[u8], store: &[u8], size: usize) -> u8
+    ensures { λ r. ⌜ r ≡ checkNumber (now (map .entry)) (now (store .entry)) size ⌝ }
 {
     let order = order_number(map);
     if order != 0 {
         return order;
     }
-    let place = place_number(map, store.len(), kept);
+    let place = place_number(map, store.len(), size);
     if place != 0 {
         return place;
     }

@@ -28,8 +28,8 @@ use Rattle.memory.specs.Promises.{WriteValue, ReadLatched, FillValue, FillLocks
 use Rattle.memory.specs.Promises.{ReadOther, ReadNone}
 use Rattle.memory.specs.Cases.{ReadCases, ResetCases}
 use Rattle.memory.specs.Reset.{FillResets, ResetSettled}
-use Rattle.hearing.specs.declared.rooms.Who.{Who}
-use Rattle.hearing.specs.declared.rooms.Heard.{Heard}
+use Rattle.hearing.specs.declared.heard.Who.{Who}
+use Rattle.hearing.specs.declared.heard.Heard.{Heard}
 use Rattle.hearing.specs.Promises.{PairClocks, NoPair, ForTheUnit, SpecialForAll, CodeStands, EventForeign}
 use Rattle.hearing.specs.Promises.{ReservedForeign, ElevenKeep, ClosesNothing, ListedExactly}
 use Rattle.rooms.specs.Promises.{ShortTakesAddress}

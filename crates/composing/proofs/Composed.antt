@@ -21,7 +21,7 @@ use Rattle.composing.specs.Compose.{orMissing, sourceFits, shippedOf, or
 use Rattle.composing.specs.Compose.{secondCarried, eventWith, eventBy, composeOf, powerFits, powerBy}
 use Rattle.composing.specs.Compose.{composePowerOf}
 use Rattle.composing.specs.Promises.{Composes, Carries, FallsBack, ComposesPower, Lowest}
-use Rattle.composing.specs.Refusals.{composerTests, ComposerNumbers, powerTests, PowerNumbers}
+use Rattle.composing.specs.Refusals.{composerTests, ComposerNumbers, powerEventTests, PowerNumbers}
 use Rattle.composing.specs.declared.source.Source.{Source}
 
 -- bit k of n is n / 2 ^ k % 2, at any k
@@ -170,5 +170,5 @@ composer-numbers e =
 pub power-numbers : PowerNumbers
 unfolding composePowerOf firstFailing
 power-numbers short groups =
-    if-by (λ w. writingNumber w ≡ firstFailing (powerTests short groups)) (powerFits short groups)
+    if-by (λ w. writingNumber w ≡ firstFailing (powerEventTests short groups)) (powerFits short groups)
     (λ f. simp (f, power-written short groups f)) (λ f. simp f)

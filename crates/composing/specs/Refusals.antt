@@ -17,13 +17,14 @@ composerTests e = test 6 (sourceFits e) ∷ []
 abbrev pub ComposerNumbers : Type 0
 ComposerNumbers = (e : Source) → writingNumber (composeOf e) ≡ firstFailing (composerTests e)
 
-abbrev pub powerTests : ℕ → ℕ → List Test
-powerTests short groups = test 6 (powerFits short groups) ∷ []
+abbrev pub powerEventTests : ℕ → ℕ → List Test
+powerEventTests short groups = test 6 (powerFits short groups) ∷ []
 
 abbrev pub PowerNumbers : Type 0
-PowerNumbers = (short groups : ℕ) → writingNumber (composePowerOf short groups) ≡ firstFailing (powerTests short groups)
+PowerNumbers =
+    (short groups : ℕ) → writingNumber (composePowerOf short groups) ≡ firstFailing (powerEventTests short groups)
 
 -- so each number is given exactly if every test before its own passes and its own fails
 pub record Exactly : Type 0 where
   pub compose-event : (e : Source) → WritingExactly (composeOf e) (composerTests e)
-  pub compose-power : (short groups : ℕ) → WritingExactly (composePowerOf short groups) (powerTests short groups)
+  pub compose-power : (short groups : ℕ) → WritingExactly (composePowerOf short groups) (powerEventTests short groups)

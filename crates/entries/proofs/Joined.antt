@@ -8,8 +8,8 @@ use native.Mathlib.Omega.{arith}
 use lib.ListN.{length, getD, length-append, List·getD-append}
 use lib.Seq.{getD-append-add}
 use Rattle.laws.specs.Lists.{items}
-use Rattle.entries.specs.Entry.{entryAt, entries, wholeRecords}
-use Rattle.entries.specs.Promises.{RecordsJoined}
+use Rattle.entries.specs.Entry.{entryAt, entries, wholeEntries}
+use Rattle.entries.specs.Promises.{EntriesJoined}
 use Rattle.entries.proofs.Sequences.{items-same, items-append}
 
 -- the same eight bytes are the same entry
@@ -31,7 +31,7 @@ entry-same a b i j h =
       h 7 (omega arith),
     )
 
-pub records-joined : RecordsJoined
+pub records-joined : EntriesJoined
 records-joined a b k n e = items-append (entryAt (a ++ b)) k n 0 ∙ front ∙ back
   where
     front : items (entryAt (a ++ b)) 0 k ++ items (entryAt (a ++ b)) (0 + k) n
@@ -50,7 +50,7 @@ records-joined a b k n e = items-append (entryAt (a ++ b)) k n 0 ∙ front ∙ b
         ap (λ (m : ℕ). getD (a ++ b) m 0) q ∙ getD-append-add a b (8 * (0 + i) + c) 0)))
 
 -- a slice of whole records and what follows it
-pub whole-joined : (a b : List ℕ) → length a % 8 ≡ 0 → wholeRecords (a ++ b) ≡ wholeRecords a ++ wholeRecords b
+pub whole-joined : (a b : List ℕ) → length a % 8 ≡ 0 → wholeEntries (a ++ b) ≡ wholeEntries a ++ wholeEntries b
 whole-joined a b e =
     let all : length (a ++ b) / 8 ≡ length a / 8 + length b / 8 = omega (arith, length-append a b) in
     ap (entries (a ++ b)) all

@@ -32,8 +32,8 @@ abbrev pub entries : List ℕ → ℕ → List Entry
 entries bytes n = items (entryAt bytes) 0 n
 
 -- the whole records; an unfinished one behind them is none of them
-abbrev pub wholeRecords : List ℕ → List Entry
-wholeRecords bytes = entries bytes (length bytes / 8)
+abbrev pub wholeEntries : List ℕ → List Entry
+wholeEntries bytes = entries bytes (length bytes / 8)
 
 abbrev pub isBroken : Entry → Bool
 isBroken (Entry.Frame clock frame) = false

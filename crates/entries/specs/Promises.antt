@@ -9,12 +9,12 @@ use lib.Dec.{eqb}
 use lib.ListN.{length, take}
 use Rattle.laws.specs.Settled.{Settles}
 use Rattle.entries.specs.Entry.{fourBytes, entryAt, entries}
-use Rattle.entries.specs.Slices.{Keeps}
+use Rattle.entries.specs.Slices.{KeepsRest}
 use Rattle.entries.specs.declared.entry.Entry.{Entry}
 
 -- the records of two slices, one after the other, the first of k whole records, are the records of both
-abbrev pub RecordsJoined : Type 0
-RecordsJoined = (a b : List ℕ) (k n : ℕ) → length a ≡ 8 * k → entries (a ++ b) (k + n) ≡ entries a k ++ entries b n
+abbrev pub EntriesJoined : Type 0
+EntriesJoined = (a b : List ℕ) (k n : ℕ) → length a ≡ 8 * k → entries (a ++ b) (k + n) ≡ entries a k ++ entries b n
 
 abbrev pub isWhole : List ℕ → Bool
 isWhole slice = eqb (length slice % 8) 0
@@ -26,7 +26,7 @@ pub record Rest (kept : ℕ) (before after : List ℕ) (filled : ℕ) : Type 0 w
 
 abbrev pub RestKept : Type 0
 RestKept = (kept : ℕ) (before after : List ℕ) (filled : ℕ)
-    → filled ≤ length before → Keeps kept before after filled → Rest kept before after filled
+    → filled ≤ length before → KeepsRest kept before after filled → Rest kept before after filled
 
 -- ---- what each call promises of its result r, and of the bytes it leaves
 
@@ -37,7 +37,7 @@ abbrev pub EntryAtPromise : List ℕ → ℕ → Entry → Type 0
 EntryAtPromise bytes i r = r ≡ entryAt bytes i
 
 abbrev pub KeepRestPromise : List ℕ → ℕ → ℕ → List ℕ → Type 0
-KeepRestPromise before filled r left = Keeps r before left filled
+KeepRestPromise before filled r left = KeepsRest r before left filled
 
 -- ---- results meeting the same promise are equal
 

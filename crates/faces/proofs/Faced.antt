@@ -16,33 +16,33 @@ use Rattle.faces.specs.Answers.{refusal, replyWord}
 use Rattle.faces.specs.Face.{facedBy, thenNumber, shapeNumber, onBytes, Faces}
 
 -- 7 to 11 come first, then the call's own number
-module _ (map store : List ℕ) (kept own n : ℕ) (e : n ≡ checkNumber map store kept) where
-  pub then-first : (n ≡ 0 → ⊥) → n ≡ thenNumber map store kept own
+module _ (map store : List ℕ) (size own n : ℕ) (e : n ≡ checkNumber map store size) where
+  pub then-first : (n ≡ 0 → ⊥) → n ≡ thenNumber map store size own
   unfolding checkNumber thenNumber
-  then-first h = sym (joined-some (checkTests map store kept) (test own false ∷ []) n (omega arith) (sym e))
+  then-first h = sym (joined-some (checkTests map store size) (test own false ∷ []) n (omega arith) (sym e))
 
-  pub then-own : n ≡ 0 → own ≡ thenNumber map store kept own
+  pub then-own : n ≡ 0 → own ≡ thenNumber map store size own
   unfolding checkNumber thenNumber firstFailing
-  then-own z = sym (joined-none (checkTests map store kept) (test own false ∷ []) refl (sym e ∙ z))
+  then-own z = sym (joined-none (checkTests map store size) (test own false ∷ []) refl (sym e ∙ z))
 
 -- it is a number
-pub then-some : (map store : List ℕ) (kept own : ℕ) → 0 < own → 0 < thenNumber map store kept own
-then-some map store kept own h = go (checkNumber map store kept) refl
+pub then-some : (map store : List ℕ) (size own : ℕ) → 0 < own → 0 < thenNumber map store size own
+then-some map store size own h = go (checkNumber map store size) refl
   where
-    go : (n : ℕ) → checkNumber map store kept ≡ n → 0 < thenNumber map store kept own
-    go zero e = omega (arith, then-own map store kept own 0 (sym e) refl)
-    go (suc n) e = omega (arith, then-first map store kept own (suc n) (sym e) (λ z. omega arith))
+    go : (n : ℕ) → checkNumber map store size ≡ n → 0 < thenNumber map store size own
+    go zero e = omega (arith, then-own map store size own 0 (sym e) refl)
+    go (suc n) e = omega (arith, then-first map store size own (suc n) (sym e) (λ z. omega arith))
 
 -- 7 to 11 and one test more, which do not all pass
-pub then-is : (map store : List ℕ) (kept own : ℕ) (last : Bool) →
-    (firstFailing (checkTests map store kept ++ test own last ∷ []) ≡ 0 → ⊥) →
-    firstFailing (checkTests map store kept ++ test own last ∷ []) ≡ thenNumber map store kept own
+pub then-is : (map store : List ℕ) (size own : ℕ) (last : Bool) →
+    (firstFailing (checkTests map store size ++ test own last ∷ []) ≡ 0 → ⊥) →
+    firstFailing (checkTests map store size ++ test own last ∷ []) ≡ thenNumber map store size own
 unfolding thenNumber firstFailing
-then-is map store kept own false h = refl
-then-is map store kept own true h = go (firstFailing tests) refl
+then-is map store size own false h = refl
+then-is map store size own true h = go (firstFailing tests) refl
   where
     tests : List Test
-    tests = checkTests map store kept
+    tests = checkTests map store size
 
     go : (n : ℕ) → firstFailing tests ≡ n →
         firstFailing (tests ++ test own true ∷ []) ≡ firstFailing (tests ++ test own false ∷ [])
@@ -57,20 +57,20 @@ pub faced : {stepped : Stepped} {answer : ℕ} {state store : List ℕ} {o : Out
 faced g p q =
     record {
       answers = q ∙ ap (λ (s : Stepped). replyWord (s .reply)) (g .answer);
-      keeps = p ∙ ap (λ (s : Stepped). stateBytes (s .state)) (g .answer);
+      state-is = p ∙ ap (λ (s : Stepped). stateBytes (s .state)) (g .answer);
       leaves = g .store;
     }
 
-module _ (map before : List ℕ) (kept : ℕ) (bytes : List ℕ) (shaped : Bool) (e : shaped ≡ shapeHolds bytes)
+module _ (map before : List ℕ) (size : ℕ) (bytes : List ℕ) (shaped : Bool) (e : shaped ≡ shapeHolds bytes)
     (o : Outcome Stepped) where
-  pub unshaped : not shaped ≡ true → (number : ℕ) → number ≡ shapeNumber map before kept →
+  pub unshaped : not shaped ≡ true → (number : ℕ) → number ≡ shapeNumber map before size →
       (answer : ℕ) → answer ≡ replyWord (refusal number) →
-      Faces answer bytes before (onBytes map before kept bytes o)
+      Faces answer bytes before (onBytes map before size bytes o)
   unshaped t number f answer g =
       rw (sym e ∙ not-true shaped t)
-      (record { answers = g ∙ ap (λ (n : ℕ). replyWord (refusal n)) f; keeps = refl; leaves = refl })
+      (record { answers = g ∙ ap (λ (n : ℕ). replyWord (refusal n)) f; state-is = refl; leaves = refl })
 
   pub shaped-as : not shaped ≡ false → {stepped : Stepped} {answer : ℕ} {state store : List ℕ} →
       Gives stepped store o → state ≡ stateBytes (stepped .state) → answer ≡ replyWord (stepped .reply) →
-      Faces answer state store (onBytes map before kept bytes o)
+      Faces answer state store (onBytes map before size bytes o)
   shaped-as t g p q = rw (sym e ∙ not-false shaped t) (faced g p q)

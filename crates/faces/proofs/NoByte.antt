@@ -63,7 +63,7 @@ module _ (map store image : List ℕ) (address groups : ℕ) (over : 255 < addre
             g
             ∙ ap (λ (n : ℕ). replyWord (refusal n)) (e ∙ sym no-address)
             ∙ refusal-is _ (r .unanswered) (r .no-answer);
-        keeps = sym (r .state-stays);
+        state-is = sym (r .state-stays);
         leaves = sym (r .store-stays);
       }
 

@@ -75,12 +75,12 @@ refuses o n s store bytes r e =
     }
 
 -- bytes that are no state's, and bytes that are
-on-bytes : (map store bytes : List ℕ) (kept : ℕ) (o : Outcome Stepped) (shaped : Bool) → shapeHolds bytes ≡ shaped →
-    0 < onBytes map store kept bytes o .reply .number →
+on-bytes : (map store bytes : List ℕ) (size : ℕ) (o : Outcome Stepped) (shaped : Bool) → shapeHolds bytes ≡ shaped →
+    0 < onBytes map store size bytes o .reply .number →
     (shapeHolds bytes ≡ true → 0 < numberOf o → Refuses (facedBy o) bytes store) →
-    Refuses (onBytes map store kept bytes o) bytes store
-on-bytes map store bytes kept o true e h f = rw e (f e (rw e at h))
-on-bytes map store bytes kept o false e h f =
+    Refuses (onBytes map store size bytes o) bytes store
+on-bytes map store bytes size o true e h f = rw e (f e (rw e at h))
+on-bytes map store bytes size o false e h f =
     rw e (record { unanswered = refl; no-answer = refl; state-stays = refl; store-stays = refl })
 
 zero-bytes : stateBytes zeroState ≡ replicate 96 0

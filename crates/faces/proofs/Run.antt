@@ -12,7 +12,7 @@ use Rattle.laws.specs.Choice.{if_then_else_}
 use Rattle.laws.specs.Lists.{some}
 use Rattle.laws.specs.Outcome.{leaves}
 use Rattle.records.specs.Map.{recordsOf}
-use Rattle.hearing.specs.declared.rooms.Heard.{Heard}
+use Rattle.hearing.specs.declared.heard.Heard.{Heard}
 use Rattle.rooms.specs.Rules.{addressHolds, stateHolds}
 use Rattle.rooms.specs.Reply.{refusing}
 use Rattle.rooms.specs.declared.state.State.{State}
@@ -91,7 +91,7 @@ module _ (map before image bytes : List ℕ) (es : List Entry) (shaped : Bool) (
         rw (sym e ∙ not-true shaped t)
         (record {
           counts = q .count ∙ ap (λ (o : List ℕ). length o / 4) (p .0);
-          keeps = refl;
+          state-is = refl;
           leaves = q .leaves ∙ p .1;
           writes = q .writes ∙ ap (λ (o : List ℕ). o ++ drop (length o) prior) (p .0);
         })
@@ -101,4 +101,4 @@ module _ (map before image bytes : List ℕ) (es : List Entry) (shaped : Bool) (
     unfolding runFace
     run-shaped t h k =
         rw (sym e ∙ not-false shaped t, ← h)
-        (record { counts = q .count; keeps = k ∙ ap stateBytes (q .state); leaves = q .leaves; writes = q .writes })
+        (record { counts = q .count; state-is = k ∙ ap stateBytes (q .state); leaves = q .leaves; writes = q .writes })

@@ -9,12 +9,12 @@ use Rattle.faces.specs.Promises.{SettlesFaced, SettlesRun, Settled}
 
 faced : (f : Faced) → SettlesFaced (λ (a : ℕ) (s u : List ℕ). Faces a s u f)
 faced f a b s t u v p q =
-    (p .answers ∙ sym (q .answers), p .keeps ∙ sym (q .keeps), p .leaves ∙ sym (q .leaves))
+    (p .answers ∙ sym (q .answers), p .state-is ∙ sym (q .state-is), p .leaves ∙ sym (q .leaves))
 
 ran : (before : List ℕ) (f : RunFaced) → SettlesRun (λ (m : ℕ) (s u o : List ℕ). RunFaces m s u o before f)
 ran before f m n s t u v o p q r = (
   q .counts ∙ sym (r .counts),
-  q .keeps ∙ sym (r .keeps),
+  q .state-is ∙ sym (r .state-is),
   q .leaves ∙ sym (r .leaves),
   q .writes ∙ sym (r .writes),
 )

@@ -5,7 +5,7 @@ use mathlib.Core.Path.{_≡_}
 use mathlib.Core.List.{List, [], _∷_, _++_}
 use lib.ListN.{set, replicate}
 use Rattle.hearing.specs.Pairs.{heardAt as at}
-use Rattle.hearing.specs.declared.rooms.Heard.{Heard}
+use Rattle.hearing.specs.declared.heard.Heard.{Heard}
 use Rattle.records.specs.Bench.{benchMap, benchStore, benchImage}
 use Rattle.unit.specs.Bench.{benchHeard, lastHeard}
 use Rattle.entries.specs.declared.entry.Entry.{Entry}

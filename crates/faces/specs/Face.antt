@@ -30,17 +30,17 @@ facedBy o = record { reply = o .answer .reply; state = stateBytes (o .answer .st
 
 -- 7 to 11, then a number that the call gives in any case
 unfoldable pub thenNumber : List ℕ → List ℕ → ℕ → ℕ → ℕ
-thenNumber map store kept own = firstFailing (checkTests map store kept ++ test own false ∷ [])
+thenNumber map store size own = firstFailing (checkTests map store size ++ test own false ∷ [])
 
 -- bytes that are no state's break a rule of a state: 7 to 11, then 12
 abbrev pub shapeNumber : List ℕ → List ℕ → ℕ → ℕ
-shapeNumber map store kept = thenNumber map store kept 12
+shapeNumber map store size = thenNumber map store size 12
 
 -- what comes of the state that the bytes say; where they are no state's, state and store stay
 abbrev pub onBytes : List ℕ → List ℕ → ℕ → List ℕ → Outcome Stepped → Faced
-onBytes map store kept bytes o =
+onBytes map store size bytes o =
     if shapeHolds bytes then facedBy o
-    else record { reply = refusal (shapeNumber map store kept); state = bytes; store = store }
+    else record { reply = refusal (shapeNumber map store size); state = bytes; store = store }
 
 unfoldable pub frameFace : List ℕ → List ℕ → List ℕ → List ℕ → ℕ → ℕ → Faced
 frameFace map store image bytes frame clock =
@@ -58,7 +58,7 @@ startFace map store image address groups =
 -- the answer, the state's bytes and the store are those
 pub record Faces (answer : ℕ) (state store : List ℕ) (f : Faced) : Type 0 where
   pub answers : answer ≡ replyWord (f .reply)
-  pub keeps : state ≡ f .state
+  pub state-is : state ≡ f .state
   pub leaves : store ≡ f .store
 
 -- what a run of records comes to: what it writes, the state's bytes, the store
@@ -77,9 +77,9 @@ runBy t = record { output = t .output; state = stateBytes (t .state); store = t 
 
 -- what comes of the state that the bytes say; where they are no state's, state and store stay
 abbrev pub runOn : List ℕ → List ℕ → ℕ → List ℕ → List Entry → Traced → RunFaced
-runOn map store kept bytes es t =
+runOn map store size bytes es t =
     if shapeHolds bytes then runBy t
-    else record { output = refusedRun (shapeNumber map store kept) es; state = bytes; store = store }
+    else record { output = refusedRun (shapeNumber map store size) es; state = bytes; store = store }
 
 unfoldable pub runFace : List ℕ → List ℕ → List ℕ → List ℕ → List Entry → RunFaced
 runFace map store image bytes es =
@@ -88,6 +88,6 @@ runFace map store image bytes es =
 -- how many records were answered, the state's bytes, the store, and every byte of the output
 pub record RunFaces (count : ℕ) (state store output before : List ℕ) (f : RunFaced) : Type 0 where
   pub counts : count ≡ length (f .output) / 4
-  pub keeps : state ≡ f .state
+  pub state-is : state ≡ f .state
   pub leaves : store ≡ f .store
   pub writes : output ≡ f .output ++ drop (length (f .output)) before

@@ -91,12 +91,12 @@ bytesHold map store bytes = shapeHolds bytes && stateHolds (recordsOf map) store
 
 -- a later power-on tests 7 to 12
 abbrev pub powerOnTests : List ℕ → List ℕ → ℕ → List ℕ → List Test
-powerOnTests map store kept bytes = checkTests map store kept ++ test 12 (bytesHold map store bytes) ∷ []
+powerOnTests map store size bytes = checkTests map store size ++ test 12 (bytesHold map store bytes) ∷ []
 
 -- a frame tests 7 to 12, then what is heard: 1
 abbrev pub frameTests : List ℕ → List ℕ → ℕ → List ℕ → ℕ → ℕ → List Test
-frameTests map store kept bytes frame clock =
-    powerOnTests map store kept bytes ++ heardTests map store (stateOf bytes) (heardAt clock frame)
+frameTests map store size bytes frame clock =
+    powerOnTests map store size bytes ++ heardTests map store (stateOf bytes) (heardAt clock frame)
 
 -- each number is given exactly if every test before its own passes and its own fails
 pub record Numbered (map store image : List ℕ) : Type 0 where

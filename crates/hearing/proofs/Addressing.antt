@@ -5,7 +5,7 @@ use Prim.Native.Nat.{_/_, _%_, _^_}
 use borrow.Author.Tests.{eqb-true, eq-eqb}
 use Rattle.hearing.specs.Meaning.{readingMeaning, meaningOf}
 use Rattle.hearing.specs.Promises.{ForTheUnit, SpecialForAll}
-use Rattle.hearing.specs.declared.rooms.Who.{Who}
+use Rattle.hearing.specs.declared.heard.Who.{Who}
 
 pub for-the-unit : (who : Who) → ForTheUnit who
 for-the-unit who =

@@ -11,11 +11,11 @@ use Rattle.frames.specs.Write.{targetByte}
 use Rattle.frames.specs.declared.message.Message.{Message}
 use Rattle.frames.specs.declared.message.Reading.{Reading}
 use Rattle.frames.specs.declared.message.Target.{Target}
-use Rattle.hearing.specs.Codes.{Code, none, device, special, codeOf, Stands}
+use Rattle.hearing.specs.Codes.{Code, none, device, special, codeOf, StandsIn}
 use Rattle.hearing.specs.Meaning.{Row, listed, deviceRows, deviceCommand, firstRows, firstSpecial, otherRows}
 use Rattle.hearing.specs.Meaning.{specialCommand, isFor, commandAt, readingMeaning, meaningOf}
 use Rattle.hearing.specs.Promises.{CodeStands}
-use Rattle.hearing.specs.declared.rooms.Who.{Who}
+use Rattle.hearing.specs.declared.heard.Who.{Who}
 use Rattle.hearing.specs.declared.meaning.Meaning.{Meaning}
 use Rattle.hearing.proofs.Bytes.{command-bytes, special-bytes}
 
@@ -55,16 +55,16 @@ only-device Target.FeatureAtInstanceBroadcast o = inr refl
 only-device Target.InstanceBroadcast o = inr refl
 
 -- what no code asks of a frame, or this code does
-stands : (f : ℕ) (d c : Code) → Only d c → Stands d f → Stands c f
+stands : (f : ℕ) (d c : Code) → Only d c → StandsIn d f → StandsIn c f
 stands f d c (inl e) s = rw e tt
 stands f d c (inr e) s = rw e s
 
 module _ (who : Who) (f : ℕ) where
   -- what a reading means stands in the frame
-  right : (r : Reading) → readOf f ≡ r → Stands (codeOf (readingMeaning who r)) f
+  right : (r : Reading) → readOf f ≡ r → StandsIn (codeOf (readingMeaning who r)) f
   right (Reading.Got (Message.Command a t o)) e =
       let b = command-bytes f a t o e in
-      if-by (λ m. Stands (codeOf m) f) (isFor who a)
+      if-by (λ m. StandsIn (codeOf m) f) (isFor who a)
       (λ p. ⊎-elim
       (λ q. rw q (stands f (device o) _ (device-code o) (b .0 ∙ ap targetByte q, b .1)))
       (λ q. rw q tt)

@@ -19,11 +19,11 @@ use Rattle.frames.specs.declared.message.Message.{Message}
 use Rattle.frames.specs.declared.message.Reading.{Reading}
 use Rattle.frames.specs.declared.message.Target.{Target}
 use Rattle.frames.specs.declared.message.Targeted.{Targeted}
-use Rattle.hearing.specs.Codes.{Code, none, device, special, listedWith, codeOf, Stands}
+use Rattle.hearing.specs.Codes.{Code, none, device, special, listedWith, codeOf, StandsIn}
 use Rattle.hearing.specs.Meaning.{Row, listed, deviceRows, deviceCommand, firstRows, firstSpecial, otherRows}
 use Rattle.hearing.specs.Meaning.{specialCommand, isFor, commandAt, readingMeaning, meaningOf}
 use Rattle.hearing.specs.Promises.{ToUnit, IsSpecial, Asks, ListedExactly}
-use Rattle.hearing.specs.declared.rooms.Who.{Who}
+use Rattle.hearing.specs.declared.heard.Who.{Who}
 use Rattle.hearing.specs.declared.meaning.Meaning.{Meaning}
 use Rattle.hearing.proofs.Bytes.{command-bytes, special-bytes}
 use Rattle.hearing.proofs.Codes.{Only, device-code, special-code, only-device}
@@ -113,7 +113,7 @@ device-target = refl
 
 module _ (who : Who) (f : ℕ) where
   -- what is asked for is meant
-  device-means : (r : Reading) → readOf f ≡ r → ToUnit who r → (o : ℕ) → Stands (device o) f
+  device-means : (r : Reading) → readOf f ≡ r → ToUnit who r → (o : ℕ) → StandsIn (device o) f
       → readingMeaning who r ≡ deviceCommand o
   device-means (Reading.Got (Message.Command a t p)) e u o s =
       let b = command-bytes f a t p e in
@@ -126,7 +126,7 @@ module _ (who : Who) (f : ℕ) where
   device-means (Reading.Got (Message.Power g h)) e u o s = absurd u
   device-means (Reading.Refused n) e u o s = absurd u
 
-  special-means : (r : Reading) → readOf f ≡ r → IsSpecial r → (a i o : ℕ) → Stands (special a i o) f
+  special-means : (r : Reading) → readOf f ≡ r → IsSpecial r → (a i o : ℕ) → StandsIn (special a i o) f
       → readingMeaning who r ≡ specialCommand ((a - 0xC1) / 2) i o
   special-means (Reading.Got (Message.Special n x y)) e u a i o s =
       let b = special-bytes f n x y e in

@@ -7,7 +7,7 @@ use lib.Dec.{eqb}
 use borrow.Author.Tests.{eqb-true}
 use Rattle.laws.proofs.Tests.{both}
 use Rattle.hearing.specs.Pairs.{inTime, completes, noneWaits, waitsFor}
-use Rattle.hearing.specs.declared.rooms.Heard.{Heard}
+use Rattle.hearing.specs.declared.heard.Heard.{Heard}
 
 pub none-completes : (x : Heard) → completes noneWaits x ≡ false
 unfolding completes

@@ -11,7 +11,7 @@ use Rattle.frames.specs.declared.message.Reading.{Reading}
 use Rattle.frames.specs.declared.message.Schemed.{Schemed}
 use Rattle.hearing.specs.Meaning.{readingMeaning, meaningOf}
 use Rattle.hearing.specs.Promises.{EventForeign, ReservedForeign}
-use Rattle.hearing.specs.declared.rooms.Who.{Who}
+use Rattle.hearing.specs.declared.heard.Who.{Who}
 use Rattle.hearing.specs.declared.meaning.Meaning.{Meaning}
 
 module _ (who : Who) where

@@ -5,7 +5,7 @@ use Prim.Native.Nat.{ℕ}
 use borrow.Author.Tests.{eq-eqb, ne-eqb}
 use Rattle.hearing.specs.Pairs.{passed, inTime, completes}
 use Rattle.hearing.specs.Promises.{PairClocks, NoPair}
-use Rattle.hearing.specs.declared.rooms.Heard.{Heard}
+use Rattle.hearing.specs.declared.heard.Heard.{Heard}
 
 pub pair-clocks : (frame : ℕ) → PairClocks frame
 unfolding completes inTime passed

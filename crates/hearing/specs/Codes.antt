@@ -81,7 +81,7 @@ codeOf (AtOnce once) = onceCode once
 codeOf (NeedsPair twice) = twiceCode twice
 
 -- the code stands in the frame: address byte, instance or first byte, opcode or second byte
-abbrev pub Stands : Code → ℕ → Type 0
-Stands none f = Unit
-Stands (device opcode) f = (bits f 15 8 ≡ 0xFE) × (bits f 7 0 ≡ opcode)
-Stands (special address first second) f = (bits f 23 16 ≡ address) × (bits f 15 8 ≡ first) × (bits f 7 0 ≡ second)
+abbrev pub StandsIn : Code → ℕ → Type 0
+StandsIn none f = Unit
+StandsIn (device opcode) f = (bits f 15 8 ≡ 0xFE) × (bits f 7 0 ≡ opcode)
+StandsIn (special address first second) f = (bits f 23 16 ≡ address) × (bits f 15 8 ≡ first) × (bits f 7 0 ≡ second)

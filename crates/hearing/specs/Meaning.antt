@@ -10,7 +10,7 @@ use Rattle.frames.specs.declared.message.Address.{Address}
 use Rattle.frames.specs.declared.message.Target.{Target}
 use Rattle.frames.specs.declared.message.Message.{Message}
 use Rattle.frames.specs.declared.message.Reading.{Reading}
-use Rattle.hearing.specs.declared.rooms.Who.{Who}
+use Rattle.hearing.specs.declared.heard.Who.{Who}
 use Rattle.hearing.specs.declared.meaning.Once.{Once}
 use Rattle.hearing.specs.declared.meaning.Once.the-variants.{QueryMissingShortAddress, QueryContentDtr}
 use Rattle.hearing.specs.declared.meaning.Once.the-variants.{QueryDeviceGroups}

@@ -11,11 +11,11 @@ use Rattle.frames.specs.Read.{readOf}
 use Rattle.frames.specs.declared.message.Address.{Address}
 use Rattle.frames.specs.declared.message.Message.{Message}
 use Rattle.frames.specs.declared.message.Reading.{Reading}
-use Rattle.hearing.specs.Codes.{Code, none, device, special, listedWith, codeOf, Stands}
+use Rattle.hearing.specs.Codes.{Code, none, device, special, listedWith, codeOf, StandsIn}
 use Rattle.hearing.specs.Meaning.{Row, isFor, deviceRows, firstRows, otherRows, meaningOf, closes}
 use Rattle.hearing.specs.Pairs.{heardAt, passed, completes, noneWaits, waitsFor}
-use Rattle.hearing.specs.declared.rooms.Heard.{Heard}
-use Rattle.hearing.specs.declared.rooms.Who.{Who}
+use Rattle.hearing.specs.declared.heard.Heard.{Heard}
+use Rattle.hearing.specs.declared.heard.Who.{Who}
 use Rattle.hearing.specs.declared.meaning.Meaning.{Meaning}
 
 -- a command is for the unit exactly if its short address or group matches, if broadcast,
@@ -28,7 +28,7 @@ pub record ForTheUnit (who : Who) : Type 0 where
 
 -- the bytes of every frame that means a listed command are those of paper 01
 abbrev pub CodeStands : Type 0
-CodeStands = (who : Who) (f : ℕ) → Stands (codeOf (meaningOf who f)) f
+CodeStands = (who : Who) (f : ℕ) → StandsIn (codeOf (meaningOf who f)) f
 
 -- a frame that is read as a command whose address means the unit
 abbrev pub ToUnit : Who → Reading → Type 0
@@ -49,8 +49,8 @@ IsSpecial (Reading.Refused number) = ⊥
 -- the frame is a command for the unit, and the code's bytes stand in it; a special command has no instance byte
 abbrev pub Asks : Who → ℕ → Code → Type 0
 Asks who f none = ⊥
-Asks who f (device opcode) = ToUnit who (readOf f) × Stands (device opcode) f
-Asks who f (special address first second) = IsSpecial (readOf f) × Stands (special address first second) f
+Asks who f (device opcode) = ToUnit who (readOf f) × StandsIn (device opcode) f
+Asks who f (special address first second) = IsSpecial (readOf f) × StandsIn (special address first second) f
 
 -- the four answers, each exactly if
 pub record MeansExactly (who : Who) (f : ℕ) : Type 0 where

@@ -1,8 +1,8 @@
 // The pair rule.
 ghost use mathlib.Core.Path.{_≡_};
 ghost use Rattle.hearing.specs.Pairs.{completes, noneWaits, waitsFor};
-use crate::rooms::Heard;
-use crate::rooms::Waiting;
+use crate::heard::Heard;
+use crate::heard::Waiting;
 
 // Whether the frame that is heard is the second of a pair; the clock runs over.
 pub fn completes(waiting: Waiting, heard: Heard) -> bool

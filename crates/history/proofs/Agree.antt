@@ -12,15 +12,15 @@ use Rattle.laws.specs.Outcome.{Outcome}
 use Rattle.records.specs.Map.{recordsOf, mapped}
 use Rattle.records.specs.declared.record.Record.{Record}
 use Rattle.banks.specs.Facts.{Stands}
-use Rattle.memory.specs.Staged.{noneStaged, writeOf}
+use Rattle.memory.specs.Staged.{noneStaged, writeByte}
 use Rattle.memory.specs.Filled.{filledOf}
 use Rattle.memory.specs.declared.staged.Staged.{Staged}
 use Rattle.memory.specs.declared.filled.Filling.the-variants.{PowerOn, Reset}
 use Rattle.hearing.specs.Meaning.{meaningOf}
 use Rattle.hearing.specs.Pairs.{noneWaits, waitsFor, inTime, completes}
-use Rattle.hearing.specs.declared.rooms.Who.{Who}
-use Rattle.hearing.specs.declared.rooms.Heard.{Heard}
-use Rattle.hearing.specs.declared.rooms.Waiting.{Waiting}
+use Rattle.hearing.specs.declared.heard.Who.{Who}
+use Rattle.hearing.specs.declared.heard.Heard.{Heard}
+use Rattle.hearing.specs.declared.heard.Waiting.{Waiting}
 use Rattle.hearing.specs.declared.meaning.Once.{Once}
 use Rattle.hearing.specs.declared.meaning.Once.the-variants.{QueryMissingShortAddress, QueryContentDtr, SetDtr, SetDtrs}
 use Rattle.hearing.specs.declared.meaning.Once.the-variants.{QueryDeviceGroups}
@@ -35,17 +35,17 @@ use Rattle.rooms.specs.State.{withWho, zeroRegisters, shutDoor, zeroState}
 use Rattle.rooms.specs.declared.reply.Stepped.{Stepped}
 use Rattle.rooms.specs.declared.state.State.{State}
 use Rattle.unit.specs.Run.{Input, power-on, hears}
-use Rattle.unit.specs.Step.{frameOf}
+use Rattle.unit.specs.Step.{frameStep}
 use Rattle.unit.proofs.ForHistory.{Ready, step-accepted, power-accepted, start-accepted, content-leaves, groups-leaves}
 use Rattle.unit.proofs.ForHistory.{Rooms, roomsOf, power-rooms, foreign-leaves, not-obeyed-leaves, missing-leaves}
 use Rattle.unit.proofs.ForHistory.{dtr-leaves, dtrs-leaves, read-leaves, WritesAt, at-dtr0, at-offset, write-leaves}
 use Rattle.unit.proofs.ForHistory.{no-write-leaves}
 use Rattle.unit.proofs.ForHistory.{reset-leaves, enable-leaves, short-leaves, add-leaves, remove-leaves, half-leaves}
-use Rattle.history.specs.Machine.{Left, Start, after, Accepted, unitMachine}
+use Rattle.history.specs.Machine.{Left, Start, leftAfter, Accepted, unitMachine}
 use Rattle.history.specs.Pairs.{endsPair}
-use Rattle.history.specs.Deeds.{Context, Deed, opens, resets, puts, keeps, breaks, powers, executes, writeDeed}
+use Rattle.history.specs.Deeds.{Context, Deed, opens, resets, puts, spares, breaks, powers, executes, writeDeed}
 use Rattle.history.specs.Deeds.{onceDeed, pairDeed, deedBy, deedOf, keeping, enabledBy}
-use Rattle.history.specs.Context.{raisedFrom, onceRegisters, registersOf, pairWho, whoOf, meant, deedIn}
+use Rattle.history.specs.Context.{raisedFrom, onceRegisters, registersOf, pairWho, whoAfter, meant, deedIn}
 use Rattle.history.specs.Context.{heardIn, poweredIn, startedIn, context, deedAfter}
 
 -- the unit's rooms, as a context
@@ -59,16 +59,16 @@ contextOf r = record { who = r .who; registers = r .registers; enabled = r .door
 unfoldable pub stagedBy : List Record → List ℕ → Staged → Deed → Staged
 stagedBy rs store g opens = noneStaged
 stagedBy rs store g (resets dtr0) = noneStaged
-stagedBy rs store g (puts bank location byte) = writeOf rs store g bank location byte .answer .staged
-stagedBy rs store g keeps = g
+stagedBy rs store g (puts bank location byte) = writeByte rs store g bank location byte .answer .staged
+stagedBy rs store g spares = g
 stagedBy rs store g breaks = noneStaged
 stagedBy rs store g powers = noneStaged
 
 unfoldable pub storeBy : List Record → List ℕ → List ℕ → Staged → Deed → List ℕ
 storeBy rs image store g opens = store
 storeBy rs image store g (resets dtr0) = filledOf rs store image (Reset dtr0)
-storeBy rs image store g (puts bank location byte) = writeOf rs store g bank location byte .store
-storeBy rs image store g keeps = store
+storeBy rs image store g (puts bank location byte) = writeByte rs store g bank location byte .store
+storeBy rs image store g spares = store
 storeBy rs image store g breaks = store
 storeBy rs image store g powers = filledOf rs store image PowerOn
 
@@ -76,7 +76,7 @@ storeBy rs image store g powers = filledOf rs store image PowerOn
 abbrev heardBy : List Record → Context → Bool → Meaning → Context
 heardBy rs k pair m =
     record {
-      who = whoOf k pair m;
+      who = whoAfter k pair m;
       registers = registersOf rs k m;
       enabled = enabledBy (k .enabled) (deedOf rs k pair m);
     }
@@ -105,27 +105,27 @@ viewBy rs image store g k w d =
 module _ (rs : List Record) (image store : List ℕ) (s : State) (x : Heard) where
   abbrev Moves : Bool → Meaning → Type 0
   Moves p m =
-      view (roomsOf (frameOf rs store image s x))
+      view (roomsOf (frameStep rs store image s x))
       ≡ viewBy rs image store (s .door .staged) (heardBy rs (contextIn s) p m) (waitingBy x p m)
       (deedOf rs (contextIn s) p m)
 
   -- a write executes or not
   write-moves : (location byte : ℕ) → WritesAt rs store image s x location byte
       → (b : Bool) → (s .door .enabled && mapped rs (s .registers .dtr1)) ≡ b
-      → view (roomsOf (frameOf rs store image s x))
+      → view (roomsOf (frameStep rs store image s x))
       ≡ viewBy rs image store (s .door .staged)
       (record {
         who = s .who;
         registers = if b then raisedFrom (s .registers) location else s .registers;
-        enabled = enabledBy (s .door .enabled) (if b then puts (s .registers .dtr1) location byte else keeps);
+        enabled = enabledBy (s .door .enabled) (if b then puts (s .registers .dtr1) location byte else spares);
       })
-      noneWaits (if b then puts (s .registers .dtr1) location byte else keeps)
+      noneWaits (if b then puts (s .registers .dtr1) location byte else spares)
   unfolding enabledBy keeping raisedFrom stagedBy storeBy
   write-moves location byte w true b = ap view (write-leaves rs store image s x location byte w b)
   write-moves location byte w false b = ap view (no-write-leaves rs store image s x location byte w b)
 
   once-moves : (p : Bool) (c : Once) → meaningOf (s .who) (x .frame) ≡ AtOnce c → Moves p (AtOnce c)
-  unfolding registersOf onceRegisters raisedFrom whoOf deedOf deedBy onceDeed writeDeed executes enabledBy
+  unfolding registersOf onceRegisters raisedFrom whoAfter deedOf deedBy onceDeed writeDeed executes enabledBy
       keeping stagedBy storeBy
   once-moves p QueryMissingShortAddress e = ap view (missing-leaves rs store image s x e)
   once-moves p (QueryContentDtr k) e = ap view (content-leaves rs store image s x k e)
@@ -140,7 +140,7 @@ module _ (rs : List Record) (image store : List ℕ) (s : State) (x : Heard) whe
 
   pair-moves : (c : Twice) → completes (s .waiting) x ≡ true → meaningOf (s .who) (x .frame) ≡ NeedsPair c
       → Moves true (NeedsPair c)
-  unfolding registersOf pairWho whoOf deedOf deedBy pairDeed enabledBy keeping stagedBy storeBy
+  unfolding registersOf pairWho whoAfter deedOf deedBy pairDeed enabledBy keeping stagedBy storeBy
   pair-moves ResetMemoryBank q e = ap view (reset-leaves rs store image s x q e)
   pair-moves SetShortAddress q e = ap view (short-leaves rs store image s x q e)
   pair-moves EnableWriteMemory q e = ap view (enable-leaves rs store image s x q e)
@@ -150,7 +150,7 @@ module _ (rs : List Record) (image store : List ℕ) (s : State) (x : Heard) whe
   -- a frame moves the rooms as the grammar says, if it ends a pair by the unit exactly if it does by the list
   moves : (m : Meaning) (p : Bool) → meaningOf (s .who) (x .frame) ≡ m
       → ((c : Twice) → m ≡ NeedsPair c → completes (s .waiting) x ≡ p) → Moves p m
-  unfolding registersOf whoOf deedOf deedBy enabledBy keeping stagedBy storeBy
+  unfolding registersOf whoAfter deedOf deedBy enabledBy keeping stagedBy storeBy
   moves Foreign p e q = ap view (foreign-leaves rs store image s x e)
   moves NotObeyed p e q = ap view (not-obeyed-leaves rs store image s x e)
   moves (AtOnce c) p e q = once-moves p c e
@@ -184,9 +184,9 @@ module _ (y x : Heard) (p : Bool) (before now : Who) (c : Twice) (is : meaningOf
       go false b = refl
 
   -- after y, the frame that waits makes a pair with x exactly if y ends no pair and x repeats it in time
-  repeats : (m : Meaning) → meaningOf before (y .frame) ≡ m → (k : Context) → whoOf k p m ≡ now → k .who ≡ before
+  repeats : (m : Meaning) → meaningOf before (y .frame) ≡ m → (k : Context) → whoAfter k p m ≡ now → k .who ≡ before
       → completes (waitingBy y p m) x ≡ (again && not p)
-  unfolding whoOf
+  unfolding whoAfter
   repeats Foreign e k w b =
       rw (none-completes x, no-repeat Foreign e (sym b ∙ w) (λ z. let q : _≡_ {A = ℕ} 0 1 = cc in omega arith))
   repeats NotObeyed e k w b =
@@ -225,10 +225,10 @@ module _ (start : Start) where
   Runs h = Accepted unitMachine start h
 
   abbrev pub at : List Input → Left State
-  at h = after unitMachine start h
+  at h = leftAfter unitMachine start h
 
   frame-rooms : (x : Heard) (h : List Input) → Runs (hears x ∷ h)
-      → roomsIn (at (hears x ∷ h)) ≡ roomsOf (frameOf records (at h .store) (start .image) (at h .state) x)
+      → roomsIn (at (hears x ∷ h)) ≡ roomsOf (frameStep records (at h .store) (start .image) (at h .state) x)
   unfolding unitMachine
   frame-rooms x h A = ap (λ (o : Outcome Stepped). roomsOf o)
       (step-accepted (start .map) (at h .store) (start .image) (at h .state) x (A .0) .1)
@@ -276,7 +276,7 @@ module _ (start : Start) where
       let F = frame-rooms y h A in
       let w : at (hears y ∷ h) .state .waiting ≡ waitingBy y (endsPair h y) m = ap (λ (r : Rooms). r .waiting) F
       ∙ ap (λ (u : View). u .waiting) M in
-      let k : at (hears y ∷ h) .state .who ≡ whoOf (contextIn s) (endsPair h y) m =
+      let k : at (hears y ∷ h) .state .who ≡ whoAfter (contextIn s) (endsPair h y) m =
       ap (λ (r : Rooms). r .who) F ∙ ap (λ (u : View). u .context .who) M in
       rw w (repeats y x (endsPair h y) (s .who) (at (hears y ∷ h) .state .who) c e m refl (contextIn s) (sym k) refl)
       ∙ ends-by y x h

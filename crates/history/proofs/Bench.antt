@@ -16,16 +16,16 @@ use Rattle.frames.specs.Read as read
 use Rattle.frames.specs.Values.{targetAt}
 use Rattle.records.specs.Map.{recordAt, recordsOf}
 use Rattle.records.specs.declared.record.Record.{Record}
-use Rattle.records.specs.Facts.{Fielded}
+use Rattle.records.specs.Facts.{FieldsHold}
 use Rattle.memory.proofs.ForHistoryStaged.{taking, unfinished}
 use Rattle.hearing.specs.Meaning.{deviceCommand, firstSpecial, specialCommand, meaningOf}
 use Rattle.hearing.specs.Pairs.{passed}
-use Rattle.hearing.specs.declared.rooms.Who.{Who}
+use Rattle.hearing.specs.declared.heard.Who.{Who}
 use Rattle.rooms.specs.Due.{withDtr}
 use Rattle.unit.specs.Bench.{benchMap, benchWho}
 use Rattle.unit.specs.Run.{Input}
 use Rattle.history.specs.Bench.{p11Frames, p12Frames, benchValue, P11Writing, P12NoWriting}
-use Rattle.history.specs.Context.{raisedFrom, onceRegisters, registersOf, pairWho, whoOf, heardIn, poweredIn}
+use Rattle.history.specs.Context.{raisedFrom, onceRegisters, registersOf, pairWho, whoAfter, heardIn, poweredIn}
 use Rattle.history.specs.Context.{startedIn, meant, deedIn, context, deedAfter}
 use Rattle.history.specs.Lock.{lockBy, lock}
 use Rattle.history.specs.Deeds.{executes, writeDeed, onceDeed, pairDeed, deedBy, deedOf, keeping, enabledBy}
@@ -36,7 +36,7 @@ use Rattle.history.proofs.Past.{past-all, past-old, last-or}
 use Rattle.history.proofs.Placed.{placed, unplaced}
 use Rattle.history.proofs.Progress.{ripeBy, okFor, ripe}
 
-fields : Fielded benchValue
+fields : FieldsHold benchValue
 fields =
     record {
       low-bank = omega arith;
@@ -52,7 +52,7 @@ never : List Record → Who → Record → List Input → Bool
 never rs who v [] = true
 never rs who v (x ∷ h) = ltb (length (ripe rs who v (x ∷ h))) (v .width) && never rs who v h
 
-module _ (rs : List Record) (who : Who) (v : Record) (F : Fielded v) where
+module _ (rs : List Record) (who : Who) (v : Record) (F : FieldsHold v) where
   not-ripe : (h : List Input) → ltb (length (ripe rs who v h)) (v .width) ≡ true → (bs : List ℕ)
       → WritingAt rs who v bs h → ⊥
   not-ripe h e bs w =
@@ -81,7 +81,7 @@ record Read : Type 0 where
 
 reads : Read
 unfolding never ripe ripeBy okFor taking unfinished lock lockBy deedAfter context meant deedIn poweredIn startedIn
-    heardIn whoOf pairWho registersOf onceRegisters raisedFrom enabledBy keeping deedOf deedBy pairDeed onceDeed
+    heardIn whoAfter pairWho registersOf onceRegisters raisedFrom enabledBy keeping deedOf deedBy pairDeed onceDeed
     writeDeed executes endsPair passed withDtr meaningOf specialCommand firstSpecial deviceCommand targetAt
     read.addressOf read.targetOf read.commandOf read.readOf kindOf recordsOf recordAt bits
 reads = record { of-p11 = refl; of-p12 = refl }

@@ -15,8 +15,8 @@ use Rattle.records.specs.Order.{sizeHolds}
 use Rattle.banks.specs.Values.{valueOf, putValue, byteAt, lockByte}
 use Rattle.banks.specs.Rules.{lengthsHold, placesHold, bankHolds, banksHold, headByteHolds, headHolds, headBytesHold}
 use Rattle.memory.specs.Filled.{selects, chosen, fresh, filledOf}
-use Rattle.memory.specs.Rooms.{zeroFrom, stagedIn, stagedHolds, latchedIn, latchHolds}
-use Rattle.memory.specs.Staged.{unlocked, taken, bytesWith, takeByte, writeFound, writeAt, writeOf}
+use Rattle.memory.specs.Rules.{zeroFrom, stagedIn, stagedHolds, latchedIn, latchHolds}
+use Rattle.memory.specs.Staged.{unlocked, taken, bytesWith, takeByte, writeFound, writeAt, writeByte}
 use Rattle.hearing.specs.Meaning.{deviceCommand, firstSpecial, specialCommand, meaningOf}
 use Rattle.hearing.specs.Pairs.{passed, inTime, completes}
 use Rattle.rooms.specs.Due.{dtrOf, withDtr, shortDue, writeDue, onceDue, pairDue, dueBy, dueOf}
@@ -25,7 +25,7 @@ use Rattle.rooms.specs.State.{withWho, withRegisters, withWaiting, withDoor, wi
 use Rattle.rooms.specs.Reply.{quiet, answering, refusing}
 use Rattle.numbers.specs.Numbers.{stepNumber, startNumber}
 use Rattle.unit.specs.Run.{Input}
-use Rattle.unit.specs.Step.{hearing, raised, written, done, frameOf, powerOf, stepOf, startOf}
+use Rattle.unit.specs.Step.{cleared, raised, written, done, frameStep, powerStep, stepOf, startOf}
 use Rattle.history.specs.Bench.{bench, p11Frames, p12Frames, benchValue, p11Twice, p11Anew}
 use Rattle.history.specs.Demand.{bytesOf}
 use Rattle.history.specs.Wrong.{eachByte, firstOnly, neverStores}
@@ -47,10 +47,10 @@ pub record Runs : Type 0 where
   pub ours-anew : bytesOf unitMachine bench benchValue (reverse p11Anew) ≡ 0x00 ∷ 0x00 ∷ 0x01 ∷ 0x2C ∷ []
 
 pub runs : Runs
-unfolding unitMachine eachByte firstOnly neverStores stepOf startOf stepNumber startNumber frameOf powerOf done
-    written raised hearing refusing answering quiet poweredOn zeroState withLatch withDoor withWaiting withRegisters
+unfolding unitMachine eachByte firstOnly neverStores stepOf startOf stepNumber startNumber frameStep powerStep done
+    written raised cleared refusing answering quiet poweredOn zeroState withLatch withDoor withWaiting withRegisters
     withWho stateHolds doorHolds waitingHolds dueOf dueBy pairDue onceDue writeDue shortDue withDtr dtrOf completes
-    inTime passed meaningOf specialCommand firstSpecial deviceCommand writeOf writeAt writeFound takeByte bytesWith
+    inTime passed meaningOf specialCommand firstSpecial deviceCommand writeByte writeAt writeFound takeByte bytesWith
     taken unlocked latchHolds latchedIn zeroFrom stagedHolds stagedIn filledOf fresh chosen selects headBytesHold
     headHolds headByteHolds banksHold bankHolds placesHold lengthsHold sizeHolds recordsOf recordAt lockByte byteAt
     putValue valueOf beginner ifFirst holder targetAt read.addressOf read.targetOf read.commandOf read.readOf kindOf

@@ -7,7 +7,7 @@ use Prim.Native.Nat.{ℕ}
 use lib.ListN.{length}
 use borrow.Author.Tests.{eq-eqb}
 use Rattle.records.specs.Map.{writable}
-use Rattle.records.specs.Facts.{Member, Fielded}
+use Rattle.records.specs.Facts.{Member, FieldsHold}
 use Rattle.records.specs.declared.record.Record.{Record}
 use Rattle.banks.specs.Rules.{isLock}
 use Rattle.banks.specs.Values.{valueOf}
@@ -40,7 +40,7 @@ module _ (start : Start) where
     whole : (h : List Input) → Runs start h → Whole unitMachine start v h
     unfolding left
     whole h A =
-        let F : Fielded v = fields start h A v m in
+        let F : FieldsHold v = fields start h A v m in
         others-follow unitMachine start v (F .some-width)
         (λ g B. rw (holds g B) (value-at (records start) (start .who) (start .image) left v F g))
         (λ g B bs r. holds g B ∙ at-value (records start) (start .who) (start .image) left v F g bs r) h A
@@ -73,7 +73,7 @@ module _ (start : Start) (v : Record) (m : Member v (start .map)) (is : isLock v
   unfolding value lock okFor
   lock-value [] A = lock-left A
   lock-value (x ∷ h) A =
-      let F : Fielded v = fields start h (A .1) v m in
+      let F : FieldsHold v = fields start h (A .1) v m in
       let none : progress (records start) (start .who) v h ≡ [] =
       none-of-lock K (progress (records start) (start .who) v h) (progress-length v F (records start) (start .who) h) in
       rw (lock-value h (A .1), none, eq-eqb (v .lockable) 0 (K .no-lock)) (lock-step K (start .image) _ _)

@@ -16,7 +16,7 @@ use Rattle.records.proofs.Members.{member-fields}
 use Rattle.banks.specs.Values.{valueOf, lockByte}
 use Rattle.banks.specs.Facts.{Stands, LockRecord}
 use Rattle.banks.proofs.ForHistory.{lock-record, is-lock, lock-value}
-use Rattle.memory.specs.Rooms.{stagedHolds}
+use Rattle.memory.specs.Rules.{stagedHolds}
 use Rattle.memory.specs.Staged.{noneStaged, unlocked}
 use Rattle.memory.specs.Filled.{selects, filledOf}
 use Rattle.memory.specs.declared.staged.Staged.{Staged}
@@ -26,7 +26,7 @@ use Rattle.memory.proofs.Fills.{fill-changes-only}
 use Rattle.memory.proofs.ForHistoryFilled.{fresh-lock, reset-value, power-value, filled-stays}
 use Rattle.memory.proofs.ForHistoryStaged.{stagedFor, none-staged-for, taking, unfinished, unfinished-short, finished}
 use Rattle.memory.proofs.ForHistoryStaged.{staged-short, write-seen, write-stays, unlocked-by}
-use Rattle.history.specs.Deeds.{Deed, opens, resets, puts, keeps, breaks, powers}
+use Rattle.history.specs.Deeds.{Deed, opens, resets, puts, spares, breaks, powers}
 use Rattle.history.specs.Lock.{lockBy}
 use Rattle.history.proofs.Agree.{stagedBy, storeBy}
 use Rattle.history.proofs.Progress.{ripeBy, valueBy}
@@ -59,7 +59,7 @@ module _ {map : List ℕ} {bank : ℕ} {r : Record} (K : LockRecord map bank r) 
       go true true = refl
       go true false = refl
       go false z = refl
-  lock-step image byte keeps = refl
+  lock-step image byte spares = refl
   lock-step image byte breaks = refl
   lock-step image byte powers = rw (fresh-lock image r (is-lock K), eq-eqb (r .kind) 2 (K .its-kind))
 
@@ -95,7 +95,7 @@ module _ (map image store : List ℕ) (A : Stands map store (length image)) wher
     deed-length (resets dtr0) = fill-changes-only map store image (A .in-place) (A .as-long) (Reset dtr0) .as-long
     deed-length (puts bank location byte) = write-changes-only map store
         (A .in-place) g holding bank location byte .as-long
-    deed-length keeps = refl
+    deed-length spares = refl
     deed-length breaks = refl
     deed-length powers = fill-changes-only map store image (A .in-place) (A .as-long) PowerOn .as-long
 
@@ -107,7 +107,7 @@ module _ (map image store : List ℕ) (A : Stands map store (length image)) wher
       deed-rest wr opens = refl
       deed-rest wr (resets dtr0) = filled-stays map store image (A .in-place) (A .as-long) v m (Reset dtr0) wr
       deed-rest wr (puts bank location byte) = write-stays map store (A .in-place) g holding bank location byte v m wr
-      deed-rest wr keeps = refl
+      deed-rest wr spares = refl
       deed-rest wr breaks = refl
       deed-rest wr powers = filled-stays map store image (A .in-place) (A .as-long) v m PowerOn wr
 
@@ -122,7 +122,7 @@ module _ (map image store : List ℕ) (A : Stands map store (length image)) wher
       deed-staged wr (resets dtr0) = none
       deed-staged wr (puts bank location byte) = write-seen map store
           (A .in-place) g holding bank location byte v m wr .staged
-      deed-staged wr keeps = sym (unfinished-short v (stagedFor v g)
+      deed-staged wr spares = sym (unfinished-short v (stagedFor v g)
           (staged-short map store (A .in-place) g holding v m))
       deed-staged wr breaks = none
       deed-staged wr powers = none
@@ -136,7 +136,7 @@ module _ (map image store : List ℕ) (A : Stands map store (length image)) wher
       deed-value wr (resets dtr0) = reset-value map store image (A .in-place) (A .as-long) v m dtr0 wr
       deed-value wr (puts bank location byte) = write-seen map store
           (A .in-place) g holding bank location byte v m wr .stored
-      deed-value wr keeps = refl
+      deed-value wr spares = refl
       deed-value wr breaks = refl
       deed-value wr powers = power-value map store image (A .in-place) (A .as-long) v m
 

@@ -12,8 +12,8 @@ use Rattle.laws.proofs.Tests.{both, clash, if-by}
 use Rattle.records.specs.Map.{mapped}
 use Rattle.records.specs.declared.record.Record.{Record}
 use Rattle.hearing.specs.Meaning.{closes}
-use Rattle.hearing.specs.declared.rooms.Who.{Who}
-use Rattle.hearing.specs.declared.rooms.Heard.{Heard}
+use Rattle.hearing.specs.declared.heard.Who.{Who}
+use Rattle.hearing.specs.declared.heard.Heard.{Heard}
 use Rattle.hearing.specs.declared.meaning.Once.{Once}
 use Rattle.hearing.specs.declared.meaning.Once.the-variants.{QueryMissingShortAddress, QueryContentDtr, SetDtr, SetDtrs}
 use Rattle.hearing.specs.declared.meaning.Once.the-variants.{QueryDeviceGroups}
@@ -25,7 +25,7 @@ use Rattle.hearing.specs.declared.meaning.Meaning.{Meaning}
 use Rattle.hearing.specs.declared.meaning.Meaning.the-variants.{Foreign, NotObeyed, AtOnce, NeedsPair}
 use Rattle.unit.specs.Run.{Input, power-on, hears}
 use Rattle.history.specs.Pairs.{endsPair}
-use Rattle.history.specs.Deeds.{Context, Deed, opens, resets, puts, keeps, breaks, powers, executes, writeDeed}
+use Rattle.history.specs.Deeds.{Context, Deed, opens, resets, puts, spares, breaks, powers, executes, writeDeed}
 use Rattle.history.specs.Deeds.{onceDeed, pairDeed, deedBy, deedOf, keeping, enabledBy}
 use Rattle.history.specs.Context.{meant, deedIn, heardIn, poweredIn, startedIn, context, deedAfter}
 use Rattle.history.specs.Writing.{deedAt}
@@ -36,7 +36,7 @@ abbrev Told : Context → Deed → Type 0
 Told k opens = Unit {0}
 Told k (resets dtr0) = Unit {0}
 Told k (puts bank location byte) = k .enabled ≡ true
-Told k keeps = Unit {0}
+Told k spares = Unit {0}
 Told k breaks = Unit {0}
 Told k powers = ⊥
 
@@ -92,28 +92,28 @@ module _ (rs : List Record) (who : Who) where
 
   -- an ENABLE pair, and only keeping frames since
   pub record Since (h : List Input) : Type 0 where
-    pub enabled : ℕ
-    pub inside : enabled < length h
-    pub pair : deedAt rs who h enabled ≡ opens
-    pub only : (i : ℕ) → enabled < i → i < length h → keeping (deedAt rs who h i) ≡ true
+    pub pair-end : ℕ
+    pub inside : pair-end < length h
+    pub pair : deedAt rs who h pair-end ≡ opens
+    pub only : (i : ℕ) → pair-end < i → i < length h → keeping (deedAt rs who h i) ≡ true
 
   -- one more keeping input
   unfoldable pub more : (x : Input) (h : List Input) → Since h → keeping (deedAfter rs who h x) ≡ true → Since (x ∷ h)
   more x h S k = record {
-    enabled = S .enabled;
+    pair-end = S .pair-end;
     inside = omega (arith, S .inside);
-    pair = at-old rs who x h (S .enabled) (S .inside) ∙ S .pair;
+    pair = at-old rs who x h (S .pair-end) (S .inside) ∙ S .pair;
     only = λ i l r. go i l (last-or i (length h) r);
   }
     where
-      go : (i : ℕ) → S .enabled < i → (i ≡ length h) ⊎ (i < length h) → keeping (deedAt rs who (x ∷ h) i) ≡ true
+      go : (i : ℕ) → S .pair-end < i → (i ≡ length h) ⊎ (i < length h) → keeping (deedAt rs who (x ∷ h) i) ≡ true
       go i l (inl e) = rw (e, at-new rs who x h) k
       go i l (inr e) = rw (at-old rs who x h i e) (S .only i l e)
 
   -- the newest input is the pair
   now : (x : Input) (h : List Input) → deedAfter rs who h x ≡ opens → Since (x ∷ h)
   now x h e = record {
-    enabled = length h;
+    pair-end = length h;
     inside = omega arith;
     pair = at-new rs who x h ∙ e;
     only = λ i l r. absurd (omega arith);
@@ -126,7 +126,7 @@ module _ (rs : List Record) (who : Who) where
   since-by x h ih opens q e = now x h q
   since-by x h ih (resets dtr0) q e = clash false e refl
   since-by x h ih (puts bank location byte) q e = more x h (ih e) (rw q)
-  since-by x h ih keeps q e = more x h (ih e) (rw q)
+  since-by x h ih spares q e = more x h (ih e) (rw q)
   since-by x h ih breaks q e = clash false e refl
   since-by x h ih powers q e = clash false e refl
 

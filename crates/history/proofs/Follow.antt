@@ -9,7 +9,7 @@ use native.Mathlib.Omega.{arith}
 use lib.ListN.{length, drop}
 use Rattle.records.specs.Map.{recordsOf}
 use Rattle.records.specs.declared.record.Record.{Record}
-use Rattle.hearing.specs.declared.rooms.Who.{Who}
+use Rattle.hearing.specs.declared.heard.Who.{Who}
 use Rattle.unit.specs.Run.{Input}
 use Rattle.history.specs.Writing.{past, WritingAt}
 use Rattle.history.specs.Value.{Put, by-writing, PutsNone, ValueAt, as-left, last-put}

@@ -13,12 +13,12 @@ use Rattle.laws.specs.Choice.{if_then_else_}
 use Rattle.laws.proofs.Sides.{or-left, or-right}
 use Rattle.records.specs.Map.{writable}
 use Rattle.records.specs.declared.record.Record.{Record}
-use Rattle.records.specs.Facts.{Fielded}
+use Rattle.records.specs.Facts.{FieldsHold}
 use Rattle.memory.proofs.ForHistoryStaged.{taking, unfinished, unfinished-short, taking-first, taking-next, Taking}
 use Rattle.memory.proofs.ForHistoryStaged.{begins, goes-on, misses, takings}
-use Rattle.hearing.specs.declared.rooms.Who.{Who}
+use Rattle.hearing.specs.declared.heard.Who.{Who}
 use Rattle.unit.specs.Run.{Input}
-use Rattle.history.specs.Deeds.{Deed, opens, resets, puts, keeps, breaks, powers}
+use Rattle.history.specs.Deeds.{Deed, opens, resets, puts, spares, breaks, powers}
 use Rattle.history.specs.Context.{deedAfter}
 use Rattle.history.specs.Lock.{lock, Unlocks}
 use Rattle.history.proofs.Progress.{ripeBy, okFor, ripe, progress}
@@ -35,7 +35,7 @@ module _ (rs : List Record) (who : Who) (v : Record) where
     first : {h : List Input} {x : Input} {b : ℕ} → deedAfter rs who h x ≡ puts (v .bank) (v .first) b → Unlocked h
         → Begun (b ∷ []) (x ∷ h)
     later : {h : List Input} {x : Input} {bs : List ℕ} → Begun bs h → length bs < v .width
-        → deedAfter rs who h x ≡ keeps
+        → deedAfter rs who h x ≡ spares
         → Begun bs (x ∷ h)
     next : {h : List Input} {x : Input} {b : ℕ} {bs : List ℕ} → Begun bs h → length bs < v .width
         → deedAfter rs who h x ≡ puts (v .bank) (v .first + length bs) b → Unlocked h → Begun (bs ++ b ∷ []) (x ∷ h)
@@ -45,7 +45,7 @@ module _ (rs : List Record) (who : Who) (v : Record) where
     pub begun : Begun bs h
     pub whole : length bs ≡ v .width
 
-module _ (v : Record) (F : Fielded v) where
+module _ (v : Record) (F : FieldsHold v) where
   wide : 1 ≤ v .width
   wide = F .some-width
 
@@ -136,7 +136,7 @@ module _ (v : Record) (F : Fielded v) where
         go opens = omega arith
         go (resets dtr0) = omega arith
         go (puts bank location byte) = pick bank location byte (takings v P (okAt h) bank location byte)
-        go keeps = let l : length (progress rs who v h) < v .width = progress-length h in omega arith
+        go spares = let l : length (progress rs who v h) < v .width = progress-length h in omega arith
         go breaks = omega arith
         go powers = omega arith
 
@@ -169,7 +169,7 @@ module _ (v : Record) (F : Fielded v) where
         go ih opens e n = absurd (omega arith)
         go ih (resets dtr0) e n = absurd (omega arith)
         go ih (puts bank location byte) e n = pick ih bank location byte e n (takings v P (okAt h) bank location byte)
-        go ih keeps e n = later (earlier ih n) (progress-length h) e
+        go ih spares e n = later (earlier ih n) (progress-length h) e
         go ih breaks e n = absurd (omega arith)
         go ih powers e n = absurd (omega arith)
 

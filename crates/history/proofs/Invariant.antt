@@ -6,13 +6,13 @@ use mathlib.Core.List.{List, [], _∷_}
 use Prim.Native.Nat.{ℕ}
 use lib.ListN.{length}
 use Rattle.records.specs.Map.{writable}
-use Rattle.records.specs.Facts.{Member, Fielded}
+use Rattle.records.specs.Facts.{Member, FieldsHold}
 use Rattle.records.specs.declared.record.Record.{Record}
 use Rattle.records.proofs.Members.{member-fields}
 use Rattle.banks.specs.Values.{valueOf, lockByte}
 use Rattle.banks.specs.Facts.{Stands}
 use Rattle.memory.specs.Staged.{noneStaged, unlocked}
-use Rattle.memory.specs.Rooms.{stagedHolds}
+use Rattle.memory.specs.Rules.{stagedHolds}
 use Rattle.memory.specs.declared.staged.Staged.{Staged}
 use Rattle.memory.specs.declared.filled.Filling.the-variants.{PowerOn}
 use Rattle.memory.proofs.ForHistoryFilled.{filled-stays}
@@ -34,7 +34,7 @@ unfolding okFor
 unlocked-ok rs store v = unlocked-by rs store v
 
 module _ (start : Start) where
-  pub fields : (h : List Input) → Runs start h → (v : Record) → Member v (start .map) → Fielded v
+  pub fields : (h : List Input) → Runs start h → (v : Record) → Member v (start .map) → FieldsHold v
   fields h A v m = member-fields (start .map) (start-stands start h A .in-order) v m
 
   pub record Invariant (h : List Input) : Type 0 where

@@ -8,7 +8,7 @@ use native.Mathlib.Omega.{arith}
 use native.Mathlib.Nat.{eq-or-lt-of-le}
 use lib.ListN.{length}
 use Rattle.records.specs.declared.record.Record.{Record}
-use Rattle.hearing.specs.declared.rooms.Who.{Who}
+use Rattle.hearing.specs.declared.heard.Who.{Who}
 use Rattle.unit.specs.Run.{Input}
 use Rattle.history.specs.Context.{deedAfter}
 use Rattle.history.specs.Writing.{past, latest, deedAt}

@@ -14,9 +14,9 @@ use borrow.Author.Tests.{eq-eqb, ne-eqb, ltb-true, ltb-false}
 use Rattle.laws.specs.Choice.{if_then_else_}
 use Rattle.laws.proofs.Tests.{clash}
 use Rattle.records.specs.declared.record.Record.{Record}
-use Rattle.hearing.specs.declared.rooms.Who.{Who}
+use Rattle.hearing.specs.declared.heard.Who.{Who}
 use Rattle.unit.specs.Run.{Input, power-on}
-use Rattle.history.specs.Deeds.{Deed, opens, resets, puts, keeps, breaks, powers, keeping}
+use Rattle.history.specs.Deeds.{Deed, opens, resets, puts, spares, breaks, powers, keeping}
 use Rattle.history.specs.Context.{deedAfter}
 use Rattle.history.specs.Lock.{lock, Unlocks}
 use Rattle.history.specs.Writing.{past, latest, deedAt, WritingAt}
@@ -46,12 +46,12 @@ lt-or-ge a b = go (ltb a b) refl
 
 -- ---- a deed that keeps write-enable
 
-keeps-or : (d : Deed) → keeping d ≡ true → ((bank location byte : ℕ) → d ≡ puts bank location byte → ⊥) → d ≡ keeps
+keeps-or : (d : Deed) → keeping d ≡ true → ((bank location byte : ℕ) → d ≡ puts bank location byte → ⊥) → d ≡ spares
 unfolding keeping
 keeps-or opens e no′ = clash false e refl
 keeps-or (resets dtr0) e no′ = clash false e refl
 keeps-or (puts bank location byte) e no′ = absurd (no′ bank location byte refl)
-keeps-or keeps e no′ = refl
+keeps-or spares e no′ = refl
 keeps-or breaks e no′ = clash false e refl
 keeps-or powers e no′ = clash false e refl
 
@@ -65,7 +65,7 @@ module _ (rs : List Record) (who : Who) (v : Record) where
     since : Since rs who h
     place : ℕ → ℕ
     some : 1 ≤ length bs
-    after : since .enabled < place 0
+    follow : since .pair-end < place 0
     rising : (i j : ℕ) → i < j → j < length bs → place i < place j
     within : (j : ℕ) → j < length bs → place j < length h
     writes : (j : ℕ) → j < length bs → deedAt rs who h (place j) ≡ puts (v .bank) (v .first + j) (getD bs j 0)
@@ -81,7 +81,7 @@ module _ (rs : List Record) (who : Who) (v : Record) where
         since = more rs who x h S (rw e);
         place = λ j. length h;
         some = omega arith;
-        after = S .inside;
+        follow = S .inside;
         rising = λ i j l r. absurd (omega arith);
         within = λ j r. omega arith;
         writes = λ j r. let z : j ≡ 0 = omega arith in let y : v .first + 0 ≡ v .first = omega arith in
@@ -95,7 +95,7 @@ module _ (rs : List Record) (who : Who) (v : Record) where
         since = more rs who x h (P .since) (rw e);
         place = P .place;
         some = P .some;
-        after = P .after;
+        follow = P .follow;
         rising = P .rising;
         within = λ j r. omega (arith, P .within j r);
         writes = λ j r. at-old rs who x h (P .place j) (P .within j r) ∙ P .writes j r;
@@ -108,7 +108,7 @@ module _ (rs : List Record) (who : Who) (v : Record) where
           → deedAt rs who (x ∷ h) i ≡ puts k l c
           → (j : ℕ) × (j < length bs) × (i ≡ P .place j)
       go P i k l c lo (inl y) q =
-          let w : deedAt rs who (x ∷ h) i ≡ keeps = rw y (at-new rs who x h ∙ e) in
+          let w : deedAt rs who (x ∷ h) i ≡ spares = rw y (at-new rs who x h ∙ e) in
           let z : _≡_ {A = ℕ} 0 1 = cc in absurd (omega arith)
       go P i k l c lo (inr y) q = P .alone i k l c lo y (sym (at-old rs who x h i y) ∙ q)
   begun-partly (next {h = h} {x = x} {b = b} {bs = bs} r k e u) =
@@ -118,7 +118,7 @@ module _ (rs : List Record) (who : Who) (v : Record) where
         since = more rs who x h (P .since) (rw e);
         place = extend (P .place) (length bs) (length h);
         some = rw length-snoc (omega arith);
-        after = rw zeroth (P .after);
+        follow = rw zeroth (P .follow);
         rising = λ i j l q. up P i j l (last-or j (length bs) (rw length-snoc at q));
         within = λ j q. inside P j (last-or j (length bs) (rw length-snoc at q));
         writes = λ j q. wrote P j (last-or j (length bs) (rw length-snoc at q));
@@ -203,12 +203,12 @@ module _ (rs : List Record) (who : Who) (v : Record) where
       let E : length bs ≡ v .width = w .whole in
       let Z : Last h = ends (w .begun) E in
       record {
-        enabled = P .since .enabled;
+        pair-end = P .since .pair-end;
         pair = P .since .pair;
         only = P .since .only;
         n-bytes = E;
         place = P .place;
-        after = P .after;
+        follow = P .follow;
         rising = λ i j l r. omega (arith, P .rising i j l (omega arith));
         ending = λ j e.
             let w0 : P .place 0 < length h = P .within 0 (P .some) in
@@ -264,11 +264,11 @@ module _ (rs : List Record) (who : Who) (v : Record) where
     length-part : (j : ℕ) → suc j ≤ v .width → length (take (suc j) bs) ≡ suc j
     length-part j r = length-take-le (suc j) bs (omega (arith, w .n-bytes))
 
-    after-all : (j : ℕ) → j < v .width → w .enabled < w .place j
-    after-all j r = omega (arith, w .after, mono 0 j (omega arith) r)
+    after-all : (j : ℕ) → j < v .width → w .pair-end < w .place j
+    after-all j r = omega (arith, w .follow, mono 0 j (omega arith) r)
 
     -- an input between write j and write j + 1 keeps
-    quiet : (i j : ℕ) → suc j < v .width → w .place j < i → i < w .place (suc j) → deedAt rs who h i ≡ keeps
+    quiet : (i j : ℕ) → suc j < v .width → w .place j < i → i < w .place (suc j) → deedAt rs who h i ≡ spares
     quiet i j r lo hi =
         let top : w .place (suc j) < length h = earlier (suc j) r in
         keeps-or (deedAt rs who h i) (w .only i (omega (arith, after-all j (omega arith))) (omega arith))
@@ -287,7 +287,7 @@ module _ (rs : List Record) (who : Who) (v : Record) where
         let top : w .place (suc j) < length h = earlier (suc j) r in
         go (nth h i (omega arith)) (quiet i j r lo hi)
       where
-        go : Nth h i → deedAt rs who h i ≡ keeps → Begun rs who v (take (suc j) bs) (past h (suc i))
+        go : Nth h i → deedAt rs who h i ≡ spares → Begun rs who v (take (suc j) bs) (past h (suc i))
         go N K = rw (N .is) (later B (rw (length-part j (omega arith)) r) (N .does ∙ K))
 
     -- the inputs between write j and write j + 1

@@ -10,9 +10,9 @@ use Rattle.records.specs.declared.record.Record.{Record}
 use Rattle.banks.specs.Values.{valueOf}
 use Rattle.memory.specs.Filled.{selects, fresh}
 use Rattle.memory.proofs.ForHistoryStaged.{taking, unfinished, finished}
-use Rattle.hearing.specs.declared.rooms.Who.{Who}
+use Rattle.hearing.specs.declared.heard.Who.{Who}
 use Rattle.unit.specs.Run.{Input}
-use Rattle.history.specs.Deeds.{Deed, opens, resets, puts, keeps, breaks, powers}
+use Rattle.history.specs.Deeds.{Deed, opens, resets, puts, spares, breaks, powers}
 use Rattle.history.specs.Context.{deedAfter}
 use Rattle.history.specs.Lock.{lock}
 
@@ -21,7 +21,7 @@ unfoldable pub ripeBy : Record → List ℕ → Bool → Deed → List ℕ
 ripeBy v bs ok opens = []
 ripeBy v bs ok (resets dtr0) = []
 ripeBy v bs ok (puts bank location byte) = taking v bs ok bank location byte
-ripeBy v bs ok keeps = bs
+ripeBy v bs ok spares = bs
 ripeBy v bs ok breaks = []
 ripeBy v bs ok powers = []
 
@@ -29,7 +29,7 @@ unfoldable pub valueBy : List ℕ → Record → List ℕ → List ℕ → Bool 
 valueBy image v old bs ok lock opens = old
 valueBy image v old bs ok lock (resets dtr0) = if selects dtr0 (v .bank) && eqb lock 0x55 then fresh image v else old
 valueBy image v old bs ok lock (puts bank location byte) = finished v old (taking v bs ok bank location byte)
-valueBy image v old bs ok lock keeps = old
+valueBy image v old bs ok lock spares = old
 valueBy image v old bs ok lock breaks = old
 valueBy image v old bs ok lock powers = if eqb (v .kind) 2 then fresh image v else old
 

@@ -9,7 +9,7 @@ use native.Mathlib.Omega.{arith}
 use lib.ListN.{length, getD}
 use Rattle.laws.proofs.Tests.{clash}
 use Rattle.records.specs.declared.record.Record.{Record}
-use Rattle.hearing.specs.declared.rooms.Who.{Who}
+use Rattle.hearing.specs.declared.heard.Who.{Who}
 use Rattle.unit.specs.Run.{Input}
 use Rattle.history.specs.Deeds.{puts, keeping}
 use Rattle.history.specs.Context.{deedAfter}
@@ -61,7 +61,7 @@ module _ (rs : List Record) (who : Who) (image : List ℕ) (v : Record) where
   none-inside wide h bs w j lo hi cs p = go (put-or p)
     where
       go : WritingAt rs who v cs (past h (suc j)) ⊎ (keeping (latest rs who (past h (suc j))) ≡ false) → ⊥
-      go (inr e) = clash (keeping (deedAt rs who h j)) (w .only j (omega (arith, w .after)) (omega arith)) e
+      go (inr e) = clash (keeping (deedAt rs who h j)) (w .only j (omega (arith, w .follow)) (omega arith)) e
       go (inl y) =
           let d = last-write wide h j (omega arith) cs y in
           omega (arith, once wide h bs w j (getD cs (v .width - 1) 0) lo (omega arith) d)

@@ -10,7 +10,7 @@ use lib.ListN.{length}
 use borrow.Author.Tests.{ltb-true, ltb-false, le-ltb}
 use Rattle.laws.specs.Choice.{if_then_else_}
 use Rattle.laws.specs.Numbers.{firstFailing}
-use Rattle.hearing.specs.declared.rooms.Heard.{Heard}
+use Rattle.hearing.specs.declared.heard.Heard.{Heard}
 use Rattle.rooms.specs.declared.state.State.{State}
 use Rattle.numbers.specs.Numbers.{powerNumber, stepNumber, heardNumber}
 use Rattle.numbers.proofs.Numbers.{tests-in-order}
@@ -28,11 +28,11 @@ use Rattle.history.proofs.Demand.{unit-demand}
 use Rattle.history.proofs.Follow.{past-accepted}
 
 -- a number that is no frame is refused by 1
-too-large : (map store : List ℕ) (kept : ℕ) (s : State) (x : Heard) → powerNumber map store kept s ≡ 0
-    → 16777216 ≤ x .frame → stepNumber map store kept s x ≡ 1
+too-large : (map store : List ℕ) (size : ℕ) (s : State) (x : Heard) → powerNumber map store size s ≡ 0
+    → 16777216 ≤ x .frame → stepNumber map store size s x ≡ 1
 unfolding heardNumber firstFailing
-too-large map store kept s x e l =
-    tests-in-order map store kept .step-heard s x e ∙ rw (le-ltb (x .frame) 16777216 l)
+too-large map store size s x e l =
+    tests-in-order map store size .step-heard s x e ∙ rw (le-ltb (x .frame) 16777216 l)
 
 module _ (start : Start) (A : Runs start []) where
   -- map, store and state pass 7 to 12

@@ -12,12 +12,12 @@ use lib.ListN.{length}
 use borrow.Author.Tests.{eqb-true, eqb-false, ltb-true, ltb-false, eq-eqb, le-ltb}
 use Rattle.laws.proofs.Tests.{both, and-of, clash}
 use Rattle.records.specs.declared.record.Record.{Record}
-use Rattle.records.specs.Facts.{Fielded}
+use Rattle.records.specs.Facts.{FieldsHold}
 use Rattle.memory.specs.Filled.{selects, fresh}
 use Rattle.memory.proofs.ForHistoryStaged.{taking, finished}
-use Rattle.hearing.specs.declared.rooms.Who.{Who}
+use Rattle.hearing.specs.declared.heard.Who.{Who}
 use Rattle.unit.specs.Run.{Input, power-on, hears}
-use Rattle.history.specs.Deeds.{Deed, opens, resets, puts, keeps, breaks, powers}
+use Rattle.history.specs.Deeds.{Deed, opens, resets, puts, spares, breaks, powers}
 use Rattle.history.specs.Context.{deedAfter}
 use Rattle.history.specs.Lock.{lock}
 use Rattle.history.specs.Writing.{past, WritingAt, ResetAt}
@@ -29,7 +29,7 @@ use Rattle.history.proofs.Past.{past-all, past-old, last-or}
 use Rattle.history.proofs.Placed.{placed, unplaced}
 use Rattle.history.proofs.Progress.{ripeBy, valueBy, okFor, ripe, progress, value}
 
-module _ (rs : List Record) (who : Who) (image left : List ℕ) (v : Record) (F : Fielded v) where
+module _ (rs : List Record) (who : Who) (image left : List ℕ) (v : Record) (F : FieldsHold v) where
   abbrev val : List Input → List ℕ
   val h = value rs who v image left h
 
@@ -57,7 +57,7 @@ module _ (rs : List Record) (who : Who) (image left : List ℕ) (v : Record) (F 
       go opens i = none i
       go (resets dtr0) i = none i
       go (puts bank location byte) i = rw i (rw (le-ltb (length bs) (v .width) (omega arith)))
-      go keeps i =
+      go spares i =
           let z : length P ≡ length bs = ap length i in
           let y : length P < v .width = progress-length v F rs who h in
           absurd (omega arith)
@@ -157,8 +157,8 @@ module _ (rs : List Record) (who : Who) (image left : List ℕ) (v : Record) (F 
       go (puts bank location byte) e =
           change-puts x h bank location byte e (ltb
           (length (taking v (progress rs who v h) (ok h) bank location byte)) (v .width)) refl
-      go keeps e =
-          still x h keeps e (λ y q. let z : _≡_ {A = ℕ} 0 1 = cc in omega arith)
+      go spares e =
+          still x h spares e (λ y q. let z : _≡_ {A = ℕ} 0 1 = cc in omega arith)
           (λ q. let z : _≡_ {A = ℕ} 0 1 = cc in omega arith)
           (progress-length v F rs who h) refl
       go breaks e =

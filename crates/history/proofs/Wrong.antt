@@ -9,7 +9,7 @@ use Rattle.unit.specs.Bench.{benchMap}
 use Rattle.unit.specs.Run.{Input}
 use Rattle.history.specs.Bench.{bench, p11Frames, p12Frames, benchValue, p11Twice}
 use Rattle.history.specs.Demand.{bytesOf, Demand}
-use Rattle.history.specs.Machine.{Machine, after, unitMachine}
+use Rattle.history.specs.Machine.{Machine, leftAfter, unitMachine}
 use Rattle.history.specs.Wrong.{eachByte, firstOnly, neverStores, WrongOnesFail}
 use Rattle.history.proofs.Computed.{Gives, runs}
 use Rattle.history.proofs.Demand.{unit-demand}
@@ -21,7 +21,7 @@ bench-member = List·Memᴰ·tail (List·Memᴰ·tail (List·Memᴰ·head refl))
 
 -- a machine that starts as ours does and meets the demand has our bytes
 same-bytes : {S : Type 0} (machine : Machine S) (xs : List Input) (ours theirs : List ℕ)
-    → after machine bench [] .store ≡ after unitMachine bench [] .store
+    → leftAfter machine bench [] .store ≡ leftAfter unitMachine bench [] .store
     → Gives unitMachine xs ours → Gives machine xs theirs → Demand machine → ours ≡ theirs
 same-bytes machine xs ours theirs e a b d =
     let W = d bench (reverse xs) (b .0) benchValue bench-member refl in

@@ -6,7 +6,7 @@ use lib.ListN.{length}
 use Rattle.records.specs.Map.{recordsOf}
 use Rattle.records.specs.declared.record.Record.{Record}
 use Rattle.unit.specs.Run.{Input}
-use Rattle.unit.specs.Bench.{benchMap, benchStore, benchImage, benchWho, at, enabledBy, lastFrame}
+use Rattle.unit.specs.Bench.{benchMap, benchStore, benchImage, benchWho, at, benchFrames, lastFrame}
 use Rattle.history.specs.Machine.{Start}
 use Rattle.history.specs.Writing.{past, WritingAt}
 
@@ -16,10 +16,10 @@ bench = record { map = benchMap; store = benchStore; image = benchImage; who = b
 
 -- P12's frames, and P11's
 abbrev pub p12Frames : List Input
-p12Frames = enabledBy 0 100
+p12Frames = benchFrames 0 100
 
 abbrev pub p11Frames : List Input
-p11Frames = enabledBy 0 100 ++ lastFrame
+p11Frames = benchFrames 0 100 ++ lastFrame
 
 -- the lockable value of width 4
 abbrev pub benchValue : Record

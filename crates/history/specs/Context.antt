@@ -10,8 +10,8 @@ use Rattle.laws.specs.Choice.{if_then_else_}
 use Rattle.records.specs.Map.{mapped}
 use Rattle.records.specs.declared.record.Record.{Record}
 use Rattle.hearing.specs.Meaning.{meaningOf}
-use Rattle.hearing.specs.declared.rooms.Who.{Who}
-use Rattle.hearing.specs.declared.rooms.Heard.{Heard}
+use Rattle.hearing.specs.declared.heard.Who.{Who}
+use Rattle.hearing.specs.declared.heard.Heard.{Heard}
 use Rattle.hearing.specs.declared.meaning.Once.{Once}
 use Rattle.hearing.specs.declared.meaning.Once.the-variants.{QueryMissingShortAddress, QueryContentDtr, SetDtr, SetDtrs}
 use Rattle.hearing.specs.declared.meaning.Once.the-variants.{QueryDeviceGroups}
@@ -64,11 +64,11 @@ pairWho k (AddToDeviceGroups half) =
 pairWho k (RemoveFromDeviceGroups half) =
     record { address = k .who .address; groups = bitAnd (k .who .groups) (0xFFFFFFFF - groupWord (k .registers) half) }
 
-unfoldable pub whoOf : Context → Bool → Meaning → Who
-whoOf k pair Foreign = k .who
-whoOf k pair NotObeyed = k .who
-whoOf k pair (AtOnce once) = k .who
-whoOf k pair (NeedsPair twice) = if pair then pairWho k twice else k .who
+unfoldable pub whoAfter : Context → Bool → Meaning → Who
+whoAfter k pair Foreign = k .who
+whoAfter k pair NotObeyed = k .who
+whoAfter k pair (AtOnce once) = k .who
+whoAfter k pair (NeedsPair twice) = if pair then pairWho k twice else k .who
 
 -- what the frame means to the unit with that address and those groups
 unfoldable pub meant : Context → Heard → Meaning
@@ -82,7 +82,7 @@ deedIn rs k pair x = deedOf rs k pair (meant k x)
 unfoldable pub heardIn : List Record → Context → Bool → Heard → Context
 heardIn rs k pair x =
     record {
-      who = whoOf k pair (meant k x);
+      who = whoAfter k pair (meant k x);
       registers = registersOf rs k (meant k x);
       enabled = enabledBy (k .enabled) (deedIn rs k pair x);
     }

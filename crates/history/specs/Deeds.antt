@@ -7,7 +7,7 @@ use Rattle.laws.specs.Choice.{if_then_else_}
 use Rattle.records.specs.Map.{mapped}
 use Rattle.records.specs.declared.record.Record.{Record}
 use Rattle.hearing.specs.Meaning.{closes}
-use Rattle.hearing.specs.declared.rooms.Who.{Who}
+use Rattle.hearing.specs.declared.heard.Who.{Who}
 use Rattle.hearing.specs.declared.meaning.Once.{Once}
 use Rattle.hearing.specs.declared.meaning.Once.the-variants.{QueryMissingShortAddress, QueryContentDtr, SetDtr, SetDtrs}
 use Rattle.hearing.specs.declared.meaning.Once.the-variants.{QueryDeviceGroups}
@@ -29,7 +29,7 @@ pub data Deed : Type 0 where
   opens : Deed  -- it ends an ENABLE pair for the unit
   resets : ℕ → Deed  -- it ends a RESET MEMORY BANK pair for the unit, with this DTR0
   puts : ℕ → ℕ → ℕ → Deed  -- an executed write: bank, location, byte
-  keeps : Deed  -- any other that keeps write-enable or is no listed command for this unit
+  spares : Deed  -- any other that keeps write-enable or is no listed command for this unit
   breaks : Deed  -- any other listed command for this unit, a lone first half too
   powers : Deed  -- no frame: a power-on
 
@@ -68,14 +68,14 @@ deedBy rs k pair other (NeedsPair twice) = if pair then pairDeed k other twice e
 -- the one place where the grammar says what keeps write-enable: a frame that is no ENABLE pair, no RESET pair and no
 -- executed write breaks the writing exactly if it is a listed command for this unit that closes write-enable
 unfoldable pub deedOf : List Record → Context → Bool → Meaning → Deed
-deedOf rs k pair m = deedBy rs k pair (if closes m then breaks else keeps) m
+deedOf rs k pair m = deedBy rs k pair (if closes m then breaks else spares) m
 
 -- it keeps write-enable or is no listed command for this unit
 unfoldable pub keeping : Deed → Bool
 keeping opens = false
 keeping (resets dtr0) = false
 keeping (puts bank location byte) = true
-keeping keeps = true
+keeping spares = true
 keeping breaks = false
 keeping powers = false
 
@@ -83,7 +83,7 @@ abbrev pub opening : Deed → Bool
 opening opens = true
 opening (resets dtr0) = false
 opening (puts bank location byte) = false
-opening keeps = false
+opening spares = false
 opening breaks = false
 opening powers = false
 

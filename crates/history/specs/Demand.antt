@@ -14,17 +14,17 @@ use Rattle.unit.specs.Run.{Input, runOf}
 use Rattle.history.specs.Lock.{lock}
 use Rattle.history.specs.Writing.{past, WritingAt}
 use Rattle.history.specs.Value.{Put, PutsNone, ValueAt}
-use Rattle.history.specs.Machine.{Machine, Start, after, Accepted, unitMachine}
+use Rattle.history.specs.Machine.{Machine, Start, leftAfter, Accepted, unitMachine}
 
 module _ {S : Type 0} (machine : Machine S) (start : Start) where
   -- the bytes of v in the store, after h
   abbrev pub bytesOf : Record → List Input → List ℕ
-  bytesOf v h = valueOf v (after machine start h .store)
+  bytesOf v h = valueOf v (leftAfter machine start h .store)
 
   -- the grammar's value of v after h, from what the start left
   abbrev pub Value : Record → List Input → List ℕ → Type 0
   Value v h bytes =
-      ValueAt (recordsOf (start .map)) (start .who) (start .image) (after machine start [] .store) v h bytes
+      ValueAt (recordsOf (start .map)) (start .who) (start .image) (leftAfter machine start [] .store) v h bytes
 
   -- what is demanded of a writable value v at the point after h: `value` and `one`. The four lines after them say what
   -- that means; of any machine they follow from these two, of every accepted point (`OthersFollow`)
@@ -81,4 +81,4 @@ LockByGrammar = (start : Start) (h : List Input) → Accepted unitMachine start 
 abbrev pub InOrder : Type 0
 InOrder = (start : Start) (xs : List Input)
     → runOf (start .map) (start .store) (start .image) (start .who) xs .store
-    ≡ after unitMachine start (reverse xs) .store
+    ≡ leftAfter unitMachine start (reverse xs) .store

@@ -9,9 +9,9 @@ use lib.Dec.{eqb}
 use Rattle.laws.specs.Choice.{if_then_else_}
 use Rattle.records.specs.declared.record.Record.{Record}
 use Rattle.memory.specs.Filled.{selects}
-use Rattle.hearing.specs.declared.rooms.Who.{Who}
+use Rattle.hearing.specs.declared.heard.Who.{Who}
 use Rattle.unit.specs.Run.{Input}
-use Rattle.history.specs.Deeds.{Deed, opens, resets, puts, keeps, breaks, powers}
+use Rattle.history.specs.Deeds.{Deed, opens, resets, puts, spares, breaks, powers}
 use Rattle.history.specs.Context.{deedAfter}
 
 -- the lock byte of a bank has width 1 and is not lockable, so a writing of it is one executed write to 0x02
@@ -19,7 +19,7 @@ unfoldable pub lockBy : ℕ → ℕ → Deed → ℕ
 lockBy bank old opens = old
 lockBy bank old (resets dtr0) = if selects dtr0 bank && eqb old 0x55 then 0xFF else old
 lockBy bank old (puts k location byte) = if eqb bank k && eqb 0x02 location then byte else old
-lockBy bank old keeps = old
+lockBy bank old spares = old
 lockBy bank old breaks = old
 lockBy bank old powers = 0xFF
 

@@ -4,8 +4,8 @@ use mathlib.Core.Path.{_≡_}
 use mathlib.Core.List.{List, [], _∷_}
 use Prim.Native.Nat.{ℕ}
 use Rattle.laws.specs.Outcome.{Outcome}
-use Rattle.hearing.specs.declared.rooms.Who.{Who}
-use Rattle.hearing.specs.declared.rooms.Heard.{Heard}
+use Rattle.hearing.specs.declared.heard.Who.{Who}
+use Rattle.hearing.specs.declared.heard.Heard.{Heard}
 use Rattle.rooms.specs.declared.state.State.{State}
 use Rattle.rooms.specs.declared.reply.Stepped.{Stepped}
 use Rattle.unit.specs.Run.{Input, power-on, hears}
@@ -32,15 +32,15 @@ pub record Machine (S : Type 0) : Type 0 where
 
 module _ {S : Type 0} (machine : Machine S) (start : Start) where
   -- after a start and the inputs of h, the newest first
-  abbrev pub after : List Input → Left S
-  after [] = machine .starts start
-  after (power-on ∷ h) = machine .powers-on (start .map) (after h .store) (start .image) (after h .state)
-  after (hears x ∷ h) = machine .steps (start .map) (after h .store) (start .image) (after h .state) x
+  abbrev pub leftAfter : List Input → Left S
+  leftAfter [] = machine .starts start
+  leftAfter (power-on ∷ h) = machine .powers-on (start .map) (leftAfter h .store) (start .image) (leftAfter h .state)
+  leftAfter (hears x ∷ h) = machine .steps (start .map) (leftAfter h .store) (start .image) (leftAfter h .state) x
 
   -- the start and each input of h accepted
   abbrev pub Accepted : List Input → Type 0
-  Accepted [] = after [] .number ≡ 0
-  Accepted (x ∷ h) = (after (x ∷ h) .number ≡ 0) × Accepted h
+  Accepted [] = leftAfter [] .number ≡ 0
+  Accepted (x ∷ h) = (leftAfter (x ∷ h) .number ≡ 0) × Accepted h
 
 -- an outcome of the public calls
 abbrev pub leftBy : Outcome Stepped → Left State

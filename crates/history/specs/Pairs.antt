@@ -5,7 +5,7 @@ use mathlib.Core.Bool.{Bool, false, _&&_, not}
 use mathlib.Core.List.{List, [], _∷_}
 use lib.Dec.{eqb, leb}
 use Rattle.hearing.specs.Pairs.{passed}
-use Rattle.hearing.specs.declared.rooms.Heard.{Heard}
+use Rattle.hearing.specs.declared.heard.Heard.{Heard}
 use Rattle.unit.specs.Run.{Input, power-on, hears}
 
 -- the frame x, heard after h, ends a pair: it and the frame y before it are equal, and second minus first, modulo

@@ -8,7 +8,7 @@ use lib.ListN.{length}
 use Rattle.records.specs.declared.record.Record.{Record}
 use Rattle.banks.specs.Values.{valueOf}
 use Rattle.memory.specs.Filled.{fresh}
-use Rattle.hearing.specs.declared.rooms.Who.{Who}
+use Rattle.hearing.specs.declared.heard.Who.{Who}
 use Rattle.unit.specs.Run.{Input, power-on}
 use Rattle.history.specs.Writing.{past, WritingAt, ResetAt}
 

@@ -8,7 +8,7 @@ use mathlib.Core.List.{List, [], _∷_}
 use Prim.Native.Nat.{ℕ, suc, _+_, _-_, _<_, _≤_}
 use lib.ListN.{length, drop, getD}
 use Rattle.records.specs.declared.record.Record.{Record}
-use Rattle.hearing.specs.declared.rooms.Who.{Who}
+use Rattle.hearing.specs.declared.heard.Who.{Who}
 use Rattle.unit.specs.Run.{Input}
 use Rattle.history.specs.Deeds.{Deed, opens, resets, puts, breaks, powers, keeping}
 use Rattle.history.specs.Context.{deedAfter}
@@ -34,16 +34,16 @@ module _ (rs : List Record) (who : Who) where
 
   -- a writing of the value v, of width n, with these bytes; the newest input of h is its last write
   pub record WritingAt (v : Record) (bytes : List ℕ) (h : List Input) : Type 0 where
-    -- an ENABLE pair for the unit, that ends at input number `enabled`
-    pub enabled : ℕ
-    pub pair : deedAt h enabled ≡ opens
+    -- an ENABLE pair for the unit, that ends at input number `pair-end`
+    pub pair-end : ℕ
+    pub pair : deedAt h pair-end ≡ opens
     -- from it to the last write only frames that keep write-enable or are no listed command for this unit
     -- (a lone first half for this unit is a listed one, and so ends the writing)
-    pub only : (i : ℕ) → enabled < i → i < length h → keeping (deedAt h i) ≡ true
+    pub only : (i : ℕ) → pair-end < i → i < length h → keeping (deedAt h i) ≡ true
     -- among them n executed writes, the last of them the newest input
     pub n-bytes : length bytes ≡ v .width
     pub place : ℕ → ℕ
-    pub after : enabled < place 0
+    pub follow : pair-end < place 0
     pub rising : (i j : ℕ) → i < j → j < v .width → place i < place j
     pub ending : (j : ℕ) → suc j ≡ v .width → suc (place j) ≡ length h
     -- to its locations, first to last
@@ -54,7 +54,7 @@ module _ (rs : List Record) (who : Who) where
     -- for a lockable value, the lock byte by this same grammar being 0x55 at each
     pub unlocked : (j : ℕ) → j < v .width → Unlocks v (lock rs who (past h (place j)) (v .bank))
     -- no power-on falls inside
-    pub no-power-on : (i : ℕ) → enabled < i → i < length h → deedAt h i ≡ powers → ⊥
+    pub no-power-on : (i : ℕ) → pair-end < i → i < length h → deedAt h i ≡ powers → ⊥
 
   -- the input x, after h, is a reset of the bank
   pub record ResetAt (bank : ℕ) (x : Input) (h : List Input) : Type 0 where

@@ -10,7 +10,7 @@ use Rattle.records.specs.declared.record.Record.{Record}
 use Rattle.banks.specs.Values.{valueOf}
 use Rattle.unit.specs.Run.{Input, power-on, hears}
 use Rattle.history.specs.Writing.{past}
-use Rattle.history.specs.Machine.{Left, Machine, Start, after, Accepted, unitMachine}
+use Rattle.history.specs.Machine.{Left, Machine, Start, leftAfter, Accepted, unitMachine}
 use Rattle.history.specs.Demand.{bytesOf, Whole, Demand, ReadOnlyStay}
 use Rattle.history.proofs.Demand.{unit-demand, unit-read-only}
 use Rattle.faces.specs.Face.{Faced, startFace, frameFace}
@@ -22,7 +22,7 @@ use Rattle.lifted.proofs.Following.{follows-unit}
 pub record Leads {S T : Type 0} (m : Machine S) (n : Machine T) : Type 0 where
   pub accepts : (start : Start) (h : List Input) → Accepted n start h → Accepted m start h
   pub leaves : (start : Start) (h : List Input) → Accepted n start h
-      → after n start h .store ≡ after m start h .store
+      → leftAfter n start h .store ≡ leftAfter m start h .store
 
 -- an earlier point of an accepted history
 drop-accepted : {S : Type 0} (n : Machine S) (start : Start) (h : List Input) (k : ℕ)
@@ -80,7 +80,7 @@ was-told start [] A =
     told-by _ _ _ (startFace (start .map) (start .store) (start .image) (start .who .address) (start .who .groups)) A
 was-told start (power-on ∷ h) A = was-told start h (A .1)
 was-told start (hears x ∷ h) A =
-    let l : Left (List ℕ) = after cMachine start h in (
+    let l : Left (List ℕ) = leftAfter cMachine start h in (
       told-by _ _ _ (frameFace (start .map) (l .store) (start .image) (l .state) (x .frame) (x .clock)) (A .0),
       was-told start h (A .1),
     )

@@ -12,7 +12,7 @@ use Rattle.laws.specs.Lists.{items, every}
 use Rattle.laws.proofs.Tests.{if-by, both, and-of}
 use Rattle.laws.proofs.Parts.{length-part}
 use Rattle.hearing.specs.Pairs.{heardAt}
-use Rattle.hearing.specs.declared.rooms.Heard.{Heard}
+use Rattle.hearing.specs.declared.heard.Heard.{Heard}
 use Rattle.rooms.specs.State.{withWho, withRegisters, withWaiting, withDoor, withLatch}
 use Rattle.rooms.specs.declared.state.State.{State}
 use Rattle.unit.specs.Run.{inputOf, outputOf}

@@ -23,16 +23,16 @@ use Rattle.banks.specs.Rules.{placed}
 use Rattle.banks.specs.Values.{valueOf, padded}
 use Rattle.banks.specs.Facts.{Within}
 use Rattle.banks.proofs.Places.{holder-within}
-use Rattle.memory.specs.Staged.{bytesWith, takeByte, taken, writeFound, writeAt, writeOf}
-use Rattle.memory.specs.Latched.{latchFrom, latches, showByte, readAt, readOf}
+use Rattle.memory.specs.Staged.{bytesWith, takeByte, taken, writeFound, writeAt, writeByte}
+use Rattle.memory.specs.Latched.{latchFrom, latches, showByte, readAt, readByte}
 use Rattle.memory.specs.declared.staged.Staged.{Staged}
 use Rattle.memory.specs.declared.staged.Wrote.{Wrote}
 use Rattle.memory.specs.declared.latched.Latch.{Latch}
 use Rattle.memory.specs.declared.latched.Shown.{Shown}
 use Rattle.hearing.specs.Meaning.{meaningOf, closes}
 use Rattle.hearing.specs.Pairs.{completes}
-use Rattle.hearing.specs.declared.rooms.Heard.{Heard}
-use Rattle.hearing.specs.declared.rooms.Who.{Who}
+use Rattle.hearing.specs.declared.heard.Heard.{Heard}
+use Rattle.hearing.specs.declared.heard.Who.{Who}
 use Rattle.hearing.specs.declared.meaning.Once.{Once}
 use Rattle.hearing.specs.declared.meaning.Twice.{Twice}
 use Rattle.hearing.specs.declared.meaning.Meaning.{Meaning}
@@ -48,7 +48,7 @@ use Rattle.rooms.specs.declared.due.Due.{Due}
 use Rattle.rooms.specs.declared.due.Due.the-variants.{Nothing, Waits, Opens, Resets, Becomes, Loads, Answers}
 use Rattle.rooms.specs.declared.due.Due.the-variants.{Writes, Reads}
 use Rattle.numbers.specs.Numbers.{stepNumber, powerNumber, startNumber}
-use Rattle.unit.specs.Step.{hearing, raised, written, readBy, done, frameOf, powerOf, stepOf, powerOnOf, startOf}
+use Rattle.unit.specs.Step.{cleared, raised, written, readBy, done, frameStep, powerStep, stepOf, powerOnOf, startOf}
 use Rattle.unit.proofs.Sound.{step-sound}
 use Rattle.packing.specs.Promises.{StateHeld}
 
@@ -75,8 +75,8 @@ module _ (g : Staged) (long : length (g .bytes) ≡ 8) where
       (λ e. length-set (replicate 8 0) 0 byte) (λ e. length-set (g .bytes) k byte ∙ long)
 
   write-eight : (rs : List Record) (store : List ℕ) (bank location byte : ℕ)
-      → Eight (writeOf rs store g bank location byte)
-  unfolding writeOf writeAt writeFound takeByte
+      → Eight (writeByte rs store g bank location byte)
+  unfolding writeByte writeAt writeFound takeByte
   write-eight rs store bank location byte = go (holder rs bank location)
     where
       go : (f : Found) → Eight (writeAt rs store g location byte f)
@@ -100,8 +100,8 @@ module _ (map store : List ℕ) (p : placed map (length store) ≡ true) (l : La
       let k = w .fields .most-width in
       length-append (valueOf r store) _ ∙ rw (length-replicate) (omega arith)
 
-  read-eight : (bank location : ℕ) → EightShown (readOf (recordsOf map) store l bank location)
-  unfolding readOf readAt showByte latchFrom
+  read-eight : (bank location : ℕ) → EightShown (readByte (recordsOf map) store l bank location)
+  unfolding readByte readAt showByte latchFrom
   read-eight bank location = go (holder (recordsOf map) bank location) refl
     where
       go : (f : Found) → holder (recordsOf map) bank location ≡ f → EightShown (readAt store l location f)
@@ -191,8 +191,8 @@ fit : (s : State) → s .who .groups < 2 ^ 32 → Low (s .registers)
     → length (s .door .staged .bytes) ≡ 8 → length (s .latch .bytes) ≡ 8 → Fits s
 fit s g d f c a b = record { held = record { groups = g; frame = f; clock = c; staged = a; latched = b }; low = d }
 
-pub hearing-fits : (s : State) (closing : Bool) → Fits s → Fits (hearing s closing)
-unfolding hearing withWaiting withDoor
+pub hearing-fits : (s : State) (closing : Bool) → Fits s → Fits (cleared s closing)
+unfolding cleared withWaiting withDoor
 hearing-fits s true h = fit _ (h .held .groups) (h .low) (omega arith) (omega arith) refl (h .held .latched)
 hearing-fits s false h =
     fit _ (h .held .groups) (h .low) (omega arith) (omega arith) (h .held .staged) (h .held .latched)
@@ -226,18 +226,18 @@ module _ (map store image : List ℕ) (x : Heard) (xh : Heard32 x) where
 
   -- a frame step
   pub step-fits : (s : State) → Fits s → Fits (stepOf map store image s x .answer .state)
-  unfolding stepOf frameOf dueOf refusing
+  unfolding stepOf frameStep dueOf refusing
   step-fits s h =
       if-by (λ (o : Outcome Stepped). Fits (o .answer .state)) (eqb (stepNumber map store (length image) s x) 0)
       (λ e. done-fits (step-sound map store (length image) s x (eqb-true _ 0 e) .standing .in-place)
-      (hearing s (closes (meaningOf (s .who) (x .frame)))) (hearing-fits s _ h)
+      (cleared s (closes (meaningOf (s .who) (x .frame)))) (hearing-fits s _ h)
       (dueBy (recordsOf map) s x (meaningOf (s .who) (x .frame)))
       (due-fits (recordsOf map) s x h (meaningOf (s .who) (x .frame)) refl))
       (λ e. h)
 
 module _ (map store image : List ℕ) where
-  powered-fits : (s : State) → s .who .groups < 2 ^ 32 → Fits (powerOf (recordsOf map) store image s .answer .state)
-  unfolding powerOf quiet poweredOn withRegisters withWaiting withDoor withLatch
+  powered-fits : (s : State) → s .who .groups < 2 ^ 32 → Fits (powerStep (recordsOf map) store image s .answer .state)
+  unfolding powerStep quiet poweredOn withRegisters withWaiting withDoor withLatch
   powered-fits s g = fit _ g (record { one = omega arith; two = omega arith }) (omega arith) (omega arith) refl refl
 
   -- a later power-on

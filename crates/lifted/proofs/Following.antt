@@ -7,12 +7,12 @@ use Prim.Native.Nat.{ℕ}
 use borrow.Author.Tests.{ltb-true}
 use Rattle.laws.specs.Outcome.{Outcome}
 use Rattle.laws.proofs.Tests.{both}
-use Rattle.hearing.specs.declared.rooms.Heard.{Heard}
+use Rattle.hearing.specs.declared.heard.Heard.{Heard}
 use Rattle.rooms.specs.declared.state.State.{State}
 use Rattle.rooms.specs.declared.reply.Stepped.{Stepped}
 use Rattle.unit.specs.Step.{stepOf, powerOnOf}
 use Rattle.unit.specs.Run.{Input, power-on, hears}
-use Rattle.history.specs.Machine.{Start, after, leftBy, unitMachine}
+use Rattle.history.specs.Machine.{Start, leftAfter, leftBy, unitMachine}
 use Rattle.packing.specs.StateBytes.{stateBytes}
 use Rattle.packing.proofs.Round.{state-back}
 use Rattle.faces.specs.Face.{Faced, facedBy, startFace, frameFace, powerOnFace}
@@ -41,8 +41,8 @@ outcome-follows f o e = rw e (record { number = refl; state = refl; store = refl
 
 -- and its state fits
 record FollowsFit (start : Start) (h : List Input) : Type 0 where
-  follows : Follows (after cMachine start h) (after unitMachine start h)
-  fits-there : Fits (after unitMachine start h .state)
+  follows : Follows (leftAfter cMachine start h) (leftAfter unitMachine start h)
+  fits-there : Fits (leftAfter unitMachine start h .state)
 
 module _ (start : Start) where
   follows-fit : (h : List Input) → Told start h → FollowsFit start h
@@ -55,8 +55,8 @@ module _ (start : Start) where
   }
   follows-fit (power-on ∷ h) t =
       let i = follows-fit h t in
-      let store = after unitMachine start h .store in
-      let s = after unitMachine start h .state in
+      let store = leftAfter unitMachine start h .store in
+      let s = leftAfter unitMachine start h .state in
       record {
         follows =
             rw (i .follows .store, i .follows .state)
@@ -66,8 +66,8 @@ module _ (start : Start) where
       }
   follows-fit (hears x ∷ h) t =
       let i = follows-fit h (t .1) in
-      let store = after unitMachine start h .store in
-      let s = after unitMachine start h .state in
+      let store = leftAfter unitMachine start h .store in
+      let s = leftAfter unitMachine start h .state in
       record {
         follows =
             rw (t .0, i .follows .store, i .follows .state)

@@ -8,7 +8,7 @@ use lib.ListN.{getD}
 use Rattle.laws.specs.Lists.{every}
 use Rattle.rooms.specs.declared.state.State.{State}
 use Rattle.unit.specs.Run.{Input, power-on, hears}
-use Rattle.history.specs.Machine.{Left, Start, after, Accepted, unitMachine}
+use Rattle.history.specs.Machine.{Left, Start, leftAfter, Accepted, unitMachine}
 use Rattle.history.specs.Demand.{Demand, ReadOnlyStay}
 use Rattle.entries.specs.Entry.{entries}
 use Rattle.entries.specs.declared.entry.Entry.{Entry}
@@ -35,7 +35,7 @@ pub record Follows (c : Left (List ℕ)) (u : Left State) : Type 0 where
 -- after every such history, refused inputs and a refused start too, C's unit is ours
 abbrev pub FollowsUnit : Type 0
 FollowsUnit = (start : Start) (h : List Input) → Told start h
-    → Follows (after cMachine start h) (after unitMachine start h)
+    → Follows (leftAfter cMachine start h) (leftAfter unitMachine start h)
 
 -- it accepts exactly what ours accepts of what it can be told
 abbrev pub AcceptsAsUnit : Type 0

@@ -5,7 +5,7 @@ use mathlib.Core.Path.{_≡_}
 use mathlib.Core.List.{List, [], _∷_, map}
 use Prim.Native.Nat.{ℕ}
 use Rattle.records.specs.Cases.{benchMap}
-use Rattle.banks.specs.Cases.{benchStore, stored}
+use Rattle.banks.specs.Cases.{benchStore, storeWith}
 use Rattle.looks.specs.Look.{lookNumber, lookOf, lookBytes}
 use Rattle.looks.specs.declared.looked.Looked.{Looked}
 
@@ -38,7 +38,7 @@ lookCases =
     ∷ bench 200 0x00 (looked 14 0 0) []
     -- 7 to 11 before 14
     ∷ record { records = 0 ∷ []; store = []; bank = 2; location = 0; answer = looked 7 0 0; bytes = [] }
-    ∷ record { records = benchMap; store = stored 5 5; bank = 2; location = 0; answer = looked 11 0 0; bytes = [] }
+    ∷ record { records = benchMap; store = storeWith 5 5; bank = 2; location = 0; answer = looked 11 0 0; bytes = [] }
     ∷ []
 
 -- each case gets its number, its place and its bytes

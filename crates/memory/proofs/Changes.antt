@@ -21,7 +21,7 @@ use Rattle.banks.proofs.Standing.{stands, is-standing}
 use Rattle.banks.proofs.HeadsAndLocks.{head-fixed}
 use Rattle.banks.proofs.Values.{value-put, check-stays}
 use Rattle.memory.specs.Staged.{bytesWith}
-use Rattle.memory.specs.Rooms.{stagedHolds}
+use Rattle.memory.specs.Rules.{stagedHolds}
 use Rattle.memory.specs.Promises.{ChangesOnly, StandsStays, Takes, TakesLast, WriteChangesOnly}
 use Rattle.memory.specs.declared.staged.Staged.{Staged}
 use Rattle.memory.specs.declared.staged.Wrote.{Wrote}
@@ -29,7 +29,7 @@ use Rattle.memory.proofs.Writes.{taken-is, write-cases}
 use Rattle.memory.proofs.StagedRoom.{staged-room}
 
 pub stands-stays : StandsStays
-stands-stays map store after kept changed c s = stands map after kept (c .checks kept ∙ is-standing map store kept s)
+stands-stays map store after size changed c s = stands map after size (c .checks size ∙ is-standing map store size s)
 
 unchanged : (map store : List ℕ) (changed : Record → Type 0) → ChangesOnly map store store changed
 unchanged map store changed =
@@ -38,7 +38,7 @@ unchanged map store changed =
       others = λ r m n. refl;
       read-only = λ r m n. refl;
       unmapped = λ j h. refl;
-      checks = λ kept. refl;
+      checks = λ size. refl;
     }
 
 eight : (g : Staged) (k byte : ℕ) → length (g .bytes) ≡ 8 → length (bytesWith g k byte) ≡ 8
@@ -73,7 +73,7 @@ module _ (map store : List ℕ) (p : placed map (length store) ≡ true) (g : St
         others = λ s m c. q .others s m (λ x. c (subst changed (sym x) it));
         read-only = read-only;
         unmapped = q .unmapped;
-        checks = λ kept. check-stays map after store kept (q .as-long) (λ s m h. read-only s m (head-fixed s h));
+        checks = λ size. check-stays map after store size (q .as-long) (λ s m h. read-only s m (head-fixed s h));
       }
 
 pub write-changes-only : WriteChangesOnly

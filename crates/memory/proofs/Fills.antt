@@ -20,7 +20,7 @@ use Rattle.records.specs.declared.record.Record.{Record}
 use Rattle.records.proofs.Members.{member-fields}
 use Rattle.banks.specs.Rules.{placed, isLock}
 use Rattle.banks.specs.Values.{valueOf, putValue}
-use Rattle.banks.specs.Facts.{Apart, Put}
+use Rattle.banks.specs.Facts.{Apart, PutLeaves}
 use Rattle.banks.proofs.Places.{placed-ordered, member-inside, members-apart}
 use Rattle.banks.proofs.HeadsAndLocks.{head-fixed, single-lock}
 use Rattle.banks.proofs.Values.{value-put, check-stays}
@@ -77,7 +77,7 @@ module _ (map store image : List ℕ) (p : placed map (length store) ≡ true) (
       if-by (λ (s : List ℕ). length s ≡ length store) (such r)
       (λ t. length-put (r .offset) (fresh image r) (filled rs) ∙ filled-length rs) (λ t. filled-length rs)
 
-  put : (r : Record) (rs : List Record) → Member r map → Put map (filled rs) (fresh image r) r
+  put : (r : Record) (rs : List Record) → Member r map → PutLeaves map (filled rs) (fresh image r) r
   put r rs m =
       value-put map (filled rs) (fresh image r) r (ap (placed map) (filled-length rs) ∙ p) m (fresh-length r m)
 
@@ -140,8 +140,8 @@ module _ (map store image : List ℕ) (p : placed map (length store) ≡ true) (
         read-only = read-only;
         unmapped = λ j h. unmapped j h (recordsOf map) (λ q i. i);
         checks =
-            λ kept.
-            check-stays map after store kept (filled-length (recordsOf map)) (λ r m h. read-only r m (head-fixed r h));
+            λ size.
+            check-stays map after store size (filled-length (recordsOf map)) (λ r m h. read-only r m (head-fixed r h));
       }
 
 pub fill-value : FillValue

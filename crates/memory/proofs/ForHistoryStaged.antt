@@ -16,7 +16,7 @@ use Rattle.laws.proofs.Tests.{both, and-of, clash}
 use Rattle.laws.proofs.Sides.{or-left, or-right}
 use Rattle.records.specs.Map.{recordsOf, writable, locationsEnd}
 use Rattle.records.specs.Lookup.{holder, beginner}
-use Rattle.records.specs.Facts.{Member, Fielded, Holds}
+use Rattle.records.specs.Facts.{Member, FieldsHold, Holds}
 use Rattle.records.specs.declared.record.Record.{Record}
 use Rattle.records.specs.declared.holder.Beginning.the-variants.{Begins}
 use Rattle.records.specs.declared.holder.Found.{Found}
@@ -27,8 +27,8 @@ use Rattle.banks.specs.Rules.{placed}
 use Rattle.banks.specs.Values.{valueOf, putValue, lockByte, padded}
 use Rattle.banks.proofs.Places.{holder-within, placed-ordered}
 use Rattle.banks.proofs.Values.{value-put}
-use Rattle.memory.specs.Rooms.{stagedHolds}
-use Rattle.memory.specs.Staged.{noneStaged, isNext, unlocked, taken, stagedOf, wrote, writeOf}
+use Rattle.memory.specs.Rules.{stagedHolds}
+use Rattle.memory.specs.Staged.{noneStaged, isNext, unlocked, taken, stagedOf, wrote, writeByte}
 use Rattle.memory.specs.Promises.{Takes, bytesTo}
 use Rattle.memory.specs.declared.staged.Staged.{Staged}
 use Rattle.memory.specs.declared.staged.Wrote.{Wrote}
@@ -134,7 +134,7 @@ staged-padded v k bs h l =
 
 module _ (map store : List ℕ) (p : placed map (length store) ≡ true) (g : Staged)
     (holding : stagedHolds (recordsOf map) store g ≡ true) (v : Record) (m : Member v map) where
-  F : Fielded v
+  F : FieldsHold v
   F = member-fields map (placed-ordered map (length store) p) v m
 
   -- the staged bytes are of v
@@ -192,7 +192,7 @@ pub record Seen (v : Record) (store bs : List ℕ) (o : Outcome Wrote) : Type 0 
 module _ (map store : List ℕ) (p : placed map (length store) ≡ true) (g : Staged)
     (holding : stagedHolds (recordsOf map) store g ≡ true) (bank location byte : ℕ) (v : Record) (m : Member v map)
     (wr : writable v ≡ true) where
-  fields : Fielded v
+  fields : FieldsHold v
   fields = member-fields map (placed-ordered map (length store) p) v m
 
   abbrev S : List ℕ
@@ -202,7 +202,7 @@ module _ (map store : List ℕ) (p : placed map (length store) ≡ true) (g : St
   T = taking v S (unlocked (recordsOf map) store v) bank location byte
 
   abbrev W : Outcome Wrote
-  W = writeOf (recordsOf map) store g bank location byte
+  W = writeByte (recordsOf map) store g bank location byte
 
   -- a byte of v is taken
   taken-seen : Takes (recordsOf map) store g bank location v → bytesTo g v location byte ≡ T → Seen v store T W
@@ -333,7 +333,7 @@ module _ (map store : List ℕ) (p : placed map (length store) ≡ true) (g : St
 
   -- an executed write, seen from a writable value
   pub write-seen : Seen v store (taking v (stagedFor v g) (unlocked (recordsOf map) store v) bank location byte)
-      (writeOf (recordsOf map) store g bank location byte)
+      (writeByte (recordsOf map) store g bank location byte)
   write-seen = go (takings v S (unlocked (recordsOf map) store v) bank location byte)
     where
       go : Taking v S (unlocked (recordsOf map) store v) bank location byte → Seen v store T W
@@ -366,7 +366,7 @@ module _ (map store : List ℕ) (p : placed map (length store) ≡ true) (g : St
 pub write-stays : (map store : List ℕ) → placed map (length store) ≡ true → (g : Staged)
     → stagedHolds (recordsOf map) store g ≡ true → (bank location byte : ℕ) (v : Record) → Member v map
     → writable v ≡ false
-    → valueOf v (writeOf (recordsOf map) store g bank location byte .store) ≡ valueOf v store
+    → valueOf v (writeByte (recordsOf map) store g bank location byte .store) ≡ valueOf v store
 write-stays map store p g holding bank location byte v m w =
     write-changes-only map store p g holding bank location byte .read-only v m w
 

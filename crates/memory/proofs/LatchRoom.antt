@@ -23,8 +23,8 @@ use Rattle.banks.specs.Rules.{placed}
 use Rattle.banks.specs.Values.{valueOf, padded}
 use Rattle.banks.specs.Facts.{Within}
 use Rattle.banks.proofs.Places.{placed-ordered, holder-within}
-use Rattle.memory.specs.Latched.{latchFrom, latches, shown, showByte, readAt, readOf}
-use Rattle.memory.specs.Rooms.{zeroFrom, latchedIn, latchHolds}
+use Rattle.memory.specs.Latched.{latchFrom, latches, shown, showByte, readAt, readByte}
+use Rattle.memory.specs.Rules.{zeroFrom, latchedIn, latchHolds}
 use Rattle.memory.specs.Promises.{LatchOf, ShowsFirst, NoneLatchedHolds, ReadKeepsRule}
 use Rattle.memory.specs.Promises.{ReadFirst, ReadLatched, ReadOther, ReadNone}
 use Rattle.memory.specs.declared.latched.Latch.{Latch}
@@ -47,20 +47,20 @@ is-latch l r o =
     and-of _ _ (and-of _ _ (o .is-held) (eq-eqb (l .bank) _ (o .same-bank))) (eq-eqb (l .first) _ (o .same-first))
 
 pub read-latched : ReadLatched
-unfolding readOf readAt showByte
+unfolding readByte readAt showByte
 read-latched rs store l bank location r f h o =
     let k : ℕ = location - r .first in
     rw f (sym (if-no (eqb k 0) _ (ne-eqb k 0 (omega arith)) (if-yes (latches l r) _ (is-latch l r o) refl)))
 
 pub read-other : ReadOther
-unfolding readOf readAt showByte
+unfolding readByte readAt showByte
 read-other rs store l bank location r f h n =
     let k : ℕ = location - r .first in
     let other : latches l r ≡ false = refuted (latches l r) (λ e. n (latch-of l r e)) in
     rw f (sym (if-no (eqb k 0) _ (ne-eqb k 0 (omega arith)) (if-no (latches l r) _ other refl)))
 
 pub read-none : ReadNone
-unfolding readOf readAt
+unfolding readByte readAt
 read-none rs store l bank location f = rw f
 
 -- the latch that a first or single byte leaves
@@ -87,7 +87,7 @@ latch-first store r =
     })
 
 pub read-first : ReadFirst
-unfolding readOf readAt showByte
+unfolding readByte readAt showByte
 read-first rs store l bank location r f e =
     let z : location - r .first ≡ 0 = omega arith in
     rw (f, z) (latch-first store r)
@@ -124,7 +124,7 @@ module _ (map store : List ℕ) (p : placed map (length store) ≡ true) (bank l
       (λ t. if-by (λ (a : Shown). latchHolds (recordsOf map) (a .latch) ≡ true) (latches l r) (λ q. e) (λ q. e))
 
 pub read-keeps-rule : ReadKeepsRule
-unfolding readOf readAt
+unfolding readByte readAt
 read-keeps-rule map store p l e bank location = go (holder (recordsOf map) bank location) refl
   where
     go : (f : Found) → holder (recordsOf map) bank location ≡ f

@@ -24,7 +24,7 @@ use Rattle.banks.proofs.HeadsAndLocks.{has-lock, writable-bank}
 use Rattle.memory.specs.Staged.{unlocked}
 use Rattle.memory.specs.Filled.{fresh, filledOf}
 use Rattle.memory.specs.Filled as filled
-use Rattle.memory.specs.Rooms.{stagedIn, stagedHolds}
+use Rattle.memory.specs.Rules.{stagedIn, stagedHolds}
 use Rattle.memory.specs.Promises.{locksBank, FillLocks, FillKeepsRule}
 use Rattle.memory.specs.declared.staged.Staged.{Staged}
 use Rattle.memory.specs.declared.filled.Filling.{Filling}

@@ -25,8 +25,8 @@ use Rattle.banks.specs.Values.{valueOf, putValue, padded}
 use Rattle.banks.specs.Facts.{Within}
 use Rattle.banks.proofs.Places.{placed-ordered, holder-within}
 use Rattle.banks.proofs.Values.{value-put}
-use Rattle.memory.specs.Staged.{noneStaged, unlocked, bytesWith, stagedOf, wrote, writeOf}
-use Rattle.memory.specs.Rooms.{zeroFrom, stagedIn, stagedHolds}
+use Rattle.memory.specs.Staged.{noneStaged, unlocked, bytesWith, stagedOf, wrote, writeByte}
+use Rattle.memory.specs.Rules.{zeroFrom, stagedIn, stagedHolds}
 use Rattle.memory.specs.Promises.{Takes, bytesTo, NoneStagedHolds, WriteKeepsRule, WriteTakes, WriteValue}
 use Rattle.memory.specs.declared.staged.Staged.{Staged}
 use Rattle.memory.specs.declared.staged.Wrote.{Wrote}
@@ -125,13 +125,13 @@ module _ (map store : List ℕ) (p : placed map (length store) ≡ true) (g : St
         met .opens,
       ) bytes-zero
 
-  takes : writeOf (recordsOf map) store g bank location byte
+  takes : writeByte (recordsOf map) store g bank location byte
       ≡ (if eqb (location + 1) (locationsEnd r)
       then leaves (wrote true noneStaged) (putValue r (bytesTo g r location byte) store)
       else leaves (wrote true (stagedOf r (k + 1) (padded (bytesTo g r location byte)))) store)
   takes =
       let w = within in
-      if-eq (λ (o : Outcome Wrote). writeOf (recordsOf map) store g bank location byte ≡ o)
+      if-eq (λ (o : Outcome Wrote). writeByte (recordsOf map) store g bank location byte ≡ o)
       (location + 1) (locationsEnd r)
       (λ q.
       let v : k + 1 ≡ r .width = omega arith in
@@ -158,7 +158,7 @@ write-value map store p g e bank location byte r t =
     let w = holder-within map (length store) bank location p r (t .takes .found) in
     let v = bytesTo g r location byte in
     let n = bytes-length map store p g e bank location byte r (t .takes) in
-    let o : writeOf (recordsOf map) store g bank location byte ≡ leaves (wrote true noneStaged) (putValue r v store) =
+    let o : writeByte (recordsOf map) store g bank location byte ≡ leaves (wrote true noneStaged) (putValue r v store) =
     takes map store p g e bank location byte r (t .takes) ∙ rw (eq-eqb (location + 1) (locationsEnd r) (t .last)) in
     ap (λ (o : Outcome Wrote). valueOf r (o .store)) o
     ∙ value-put map store v r p (w .member) (n ∙ omega (arith, t .last)) .there

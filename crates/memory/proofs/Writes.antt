@@ -22,7 +22,7 @@ use Rattle.records.specs.declared.holder.Found.{Found}
 use Rattle.records.specs.declared.holder.Found.the-variants.{At, Nothing}
 use Rattle.banks.specs.Values.{putValue}
 use Rattle.memory.specs.Staged.{noneStaged, isNext, unlocked, taken, bytesWith, stagedOf, wrote, takeByte}
-use Rattle.memory.specs.Staged.{dropped, writeFound, writeAt, writeOf}
+use Rattle.memory.specs.Staged.{dropped, writeFound, writeAt, writeByte}
 use Rattle.memory.specs.Promises.{Takes, WriteDrops, WriteNotLast}
 use Rattle.memory.specs.declared.staged.Staged.{Staged}
 use Rattle.memory.specs.declared.staged.Wrote.{Wrote}
@@ -78,8 +78,8 @@ module _ (rs : List Record) (store : List ℕ) (g : Staged) (bank location byte 
 
   pub write-cases : (P : Outcome Wrote → Type 0) → P (dropped store)
       → ((r : Record) → TakesIt r → (number r + 1 ≡ r .width → ⊥) → P (stages r))
-      → ((r : Record) → TakesIt r → number r + 1 ≡ r .width → P (puts r)) → P (writeOf rs store g bank location byte)
-  unfolding writeOf writeAt writeFound takeByte
+      → ((r : Record) → TakesIt r → number r + 1 ≡ r .width → P (puts r)) → P (writeByte rs store g bank location byte)
+  unfolding writeByte writeAt writeFound takeByte
   write-cases P none more last = go (holder rs bank location) refl
     where
       go : (f : Found) → holder rs bank location ≡ f → P (writeAt rs store g location byte f)
@@ -93,12 +93,12 @@ module _ (rs : List Record) (store : List ℕ) (g : Staged) (bank location byte 
       go Nothing e = none
 
   module _ (r : Record) (t : TakesIt r) where
-    pub write-more : (number r + 1 ≡ r .width → ⊥) → writeOf rs store g bank location byte ≡ stages r
-    unfolding writeOf writeAt writeFound takeByte
+    pub write-more : (number r + 1 ≡ r .width → ⊥) → writeByte rs store g bank location byte ≡ stages r
+    unfolding writeByte writeAt writeFound takeByte
     write-more w = rw (t .found, t .took, ne-eqb (number r + 1) (r .width) w)
 
-    pub write-last : number r + 1 ≡ r .width → writeOf rs store g bank location byte ≡ puts r
-    unfolding writeOf writeAt writeFound takeByte
+    pub write-last : number r + 1 ≡ r .width → writeByte rs store g bank location byte ≡ puts r
+    unfolding writeByte writeAt writeFound takeByte
     write-last w = rw (t .found, t .took, eq-eqb (number r + 1) (r .width) w)
 
     -- the location lies in the value

@@ -14,7 +14,7 @@ use lib.Seq.{length-take-le, drop-cons, drop-append-seam, set-split}
 use Rattle.laws.specs.Lists.{every}
 use Rattle.laws.proofs.Tests.{both}
 use Rattle.banks.specs.Values.{padded}
-use Rattle.memory.specs.Rooms.{zeroFrom}
+use Rattle.memory.specs.Rules.{zeroFrom}
 
 abbrev zeros : List ℕ → Bool
 zeros bs = every (λ b. eqb b 0) bs

@@ -8,7 +8,7 @@ use Prim.Native.Nat.{ℕ}
 use lib.ListN.{replicate}
 use Rattle.records.specs.Map.{recordsOf}
 use Rattle.records.specs.Cases.{row}
-use Rattle.memory.specs.Latched.{readOf}
+use Rattle.memory.specs.Latched.{readByte}
 use Rattle.memory.specs.Filled.{filledOf}
 use Rattle.memory.specs.declared.latched.Latch.{Latch}
 use Rattle.memory.specs.declared.latched.Shown.{Shown}
@@ -110,7 +110,7 @@ readCases =
 
 abbrev readCase : ReadCase → Shown
 readCase c =
-    readOf (recordsOf twoBanks) (twoStore 0xFF 0x11 0x12 0xFF 0x21 0x22) (c .before) (c .bank) (c .location)
+    readByte (recordsOf twoBanks) (twoStore 0xFF 0x11 0x12 0xFF 0x21 0x22) (c .before) (c .bank) (c .location)
 
 -- each READ leaves its latch and gives its answer
 unfoldable pub ReadCases : Type 0

@@ -44,5 +44,5 @@ unfoldable pub readAt : List ℕ → Latch → ℕ → Found → Shown
 readAt store l location (At r) = showByte l r (valueOf r store) (location - r .first)
 readAt store l location Nothing = record { latch = l; answered = false; answer = 0 }
 
-unfoldable pub readOf : List Record → List ℕ → Latch → ℕ → ℕ → Shown
-readOf rs store l bank location = readAt store l location (holder rs bank location)
+unfoldable pub readByte : List Record → List ℕ → Latch → ℕ → ℕ → Shown
+readByte rs store l bank location = readAt store l location (holder rs bank location)

@@ -2,7 +2,7 @@ pub mod Reach
 pub mod Staged
 pub mod Latched
 pub mod Filled
-pub mod Rooms
+pub mod Rules
 pub mod Promises
 pub mod Reset
 pub mod Cases

@@ -18,10 +18,10 @@ use Rattle.records.specs.declared.holder.Found.the-variants.{At, Nothing}
 use Rattle.banks.specs.Rules.{placed, checkNumber}
 use Rattle.banks.specs.Values.{valueOf, putValue, lockByte, padded}
 use Rattle.banks.specs.Facts.{Stands}
-use Rattle.memory.specs.Staged.{noneStaged, unlocked, taken, stagedOf, wrote, writeOf}
-use Rattle.memory.specs.Latched.{noneLatched, shown, readOf}
+use Rattle.memory.specs.Staged.{noneStaged, unlocked, taken, stagedOf, wrote, writeByte}
+use Rattle.memory.specs.Latched.{noneLatched, shown, readByte}
 use Rattle.memory.specs.Filled.{fillingNumber, fillingValues, selects, chosen, fresh, filledOf}
-use Rattle.memory.specs.Rooms.{stagedHolds, latchHolds}
+use Rattle.memory.specs.Rules.{stagedHolds, latchHolds}
 use Rattle.memory.specs.declared.staged.Staged.{Staged}
 use Rattle.memory.specs.declared.latched.Latch.{Latch}
 use Rattle.memory.specs.declared.latched.Shown.{Shown}
@@ -40,13 +40,13 @@ pub record ChangesOnly (map store after : List ℕ) (changed : Record → Type 0
   pub unmapped : (j : ℕ) → ((r : Record) → Member r map → (j < r .offset) ⊎ (placesEnd r ≤ j))
       → getD after j 0 ≡ getD store j 0
   -- 7 to 11 give the number that they gave
-  pub checks : (kept : ℕ) → checkNumber map after kept ≡ checkNumber map store kept
+  pub checks : (size : ℕ) → checkNumber map after size ≡ checkNumber map store size
 
 -- and so what stood stands
 abbrev pub StandsStays : Type 1
 StandsStays =
-    (map store after : List ℕ) (kept : ℕ) (changed : Record → Type 0) → ChangesOnly map store after changed
-    → Stands map store kept → Stands map after kept
+    (map store after : List ℕ) (size : ℕ) (changed : Record → Type 0) → ChangesOnly map store after changed
+    → Stands map store size → Stands map after size
 
 -- An executed write.
 
@@ -73,8 +73,8 @@ abbrev pub WriteKeepsRule : Type 0
 WriteKeepsRule =
     (map store : List ℕ) → placed map (length store) ≡ true
     → (g : Staged) → stagedHolds (recordsOf map) store g ≡ true → (bank location byte : ℕ)
-    → stagedHolds (recordsOf map) (writeOf (recordsOf map) store g bank location byte .store)
-    (writeOf (recordsOf map) store g bank location byte .answer .staged) ≡ true
+    → stagedHolds (recordsOf map) (writeByte (recordsOf map) store g bank location byte .store)
+    (writeByte (recordsOf map) store g bank location byte .answer .staged) ≡ true
 
 -- a byte that is taken is staged behind those before it; a last byte puts them all, and nothing stays staged
 abbrev pub WriteTakes : Type 0
@@ -82,7 +82,7 @@ WriteTakes =
     (map store : List ℕ) → placed map (length store) ≡ true
     → (g : Staged) → stagedHolds (recordsOf map) store g ≡ true
     → (bank location byte : ℕ) (r : Record) → Takes (recordsOf map) store g bank location r
-    → writeOf (recordsOf map) store g bank location byte
+    → writeByte (recordsOf map) store g bank location byte
     ≡ (if eqb (location + 1) (locationsEnd r)
     then leaves (wrote true noneStaged) (putValue r (bytesTo g r location byte) store)
     else leaves (wrote true (stagedOf r (location - r .first + 1) (padded (bytesTo g r location byte)))) store)
@@ -92,13 +92,13 @@ abbrev pub WriteDrops : Type 0
 WriteDrops =
     (rs : List Record) (store : List ℕ) (g : Staged) (bank location byte : ℕ)
     → ((r : Record) → Takes rs store g bank location r → ⊥)
-    → writeOf rs store g bank location byte ≡ leaves (wrote false noneStaged) store
+    → writeByte rs store g bank location byte ≡ leaves (wrote false noneStaged) store
 
 -- unless it is a last byte that is taken, the store stays
 abbrev pub WriteNotLast : Type 0
 WriteNotLast =
     (rs : List Record) (store : List ℕ) (g : Staged) (bank location byte : ℕ)
-    → ((r : Record) → TakesLast rs store g bank location r → ⊥) → writeOf rs store g bank location byte .store ≡ store
+    → ((r : Record) → TakesLast rs store g bank location r → ⊥) → writeByte rs store g bank location byte .store ≡ store
 
 -- after a last byte the value's bytes are the staged ones and the last one
 abbrev pub WriteValue : Type 0
@@ -106,21 +106,21 @@ WriteValue =
     (map store : List ℕ) → placed map (length store) ≡ true
     → (g : Staged) → stagedHolds (recordsOf map) store g ≡ true
     → (bank location byte : ℕ) (r : Record) → TakesLast (recordsOf map) store g bank location r
-    → valueOf r (writeOf (recordsOf map) store g bank location byte .store) ≡ bytesTo g r location byte
+    → valueOf r (writeByte (recordsOf map) store g bank location byte .store) ≡ bytesTo g r location byte
 
 -- a write changes the value whose last byte it is, and nothing else
 abbrev pub WriteChangesOnly : Type 0
 WriteChangesOnly =
     (map store : List ℕ) → placed map (length store) ≡ true
     → (g : Staged) → stagedHolds (recordsOf map) store g ≡ true → (bank location byte : ℕ)
-    → ChangesOnly map store (writeOf (recordsOf map) store g bank location byte .store)
+    → ChangesOnly map store (writeByte (recordsOf map) store g bank location byte .store)
     (TakesLast (recordsOf map) store g bank location)
 
 -- executed writes of the bytes, one after the other, from the location on: what is staged then, and the store
 abbrev pub writes : List Record → List ℕ → Staged → ℕ → ℕ → List ℕ → Outcome Staged
 writes rs store g bank location [] = leaves g store
 writes rs store g bank location (b ∷ bs) =
-    writes rs (writeOf rs store g bank location b .store) (writeOf rs store g bank location b .answer .staged) bank
+    writes rs (writeByte rs store g bank location b .store) (writeByte rs store g bank location b .answer .staged) bank
     (location + 1) bs
 
 -- n executed writes to the n locations of a writable, unlocked value of width n, first to last, put the whole value,
@@ -139,7 +139,7 @@ abbrev pub ReadKeepsRule : Type 0
 ReadKeepsRule =
     (map store : List ℕ) → placed map (length store) ≡ true
     → (l : Latch) → latchHolds (recordsOf map) l ≡ true → (bank location : ℕ)
-    → latchHolds (recordsOf map) (readOf (recordsOf map) store l bank location .latch) ≡ true
+    → latchHolds (recordsOf map) (readByte (recordsOf map) store l bank location .latch) ≡ true
 
 -- the latch holds this value's bytes: its bank, and its first location in it
 pub record LatchOf (l : Latch) (r : Record) : Type 0 where
@@ -161,14 +161,14 @@ pub record ShowsFirst (store : List ℕ) (r : Record) (a : Shown) : Type 0 where
 abbrev pub ReadFirst : Type 0
 ReadFirst =
     (rs : List Record) (store : List ℕ) (l : Latch) (bank location : ℕ) (r : Record) → holder rs bank location ≡ At r
-    → location ≡ r .first → ShowsFirst store r (readOf rs store l bank location)
+    → location ≡ r .first → ShowsFirst store r (readByte rs store l bank location)
 
 -- a later byte of the latched value is answered from the latch, whatever the store holds by then, and the latch stays
 abbrev pub ReadLatched : Type 0
 ReadLatched =
     (rs : List Record) (store : List ℕ) (l : Latch) (bank location : ℕ) (r : Record) → holder rs bank location ≡ At r
     → r .first < location → LatchOf l r
-    → readOf rs store l bank location ≡ shown l (getD (l .bytes) (location - r .first) 0)
+    → readByte rs store l bank location ≡ shown l (getD (l .bytes) (location - r .first) 0)
 
 -- a later byte of any other value, one at the same location of another bank too, is answered from the store, and the
 -- latch stays
@@ -176,13 +176,13 @@ abbrev pub ReadOther : Type 0
 ReadOther =
     (rs : List Record) (store : List ℕ) (l : Latch) (bank location : ℕ) (r : Record) → holder rs bank location ≡ At r
     → r .first < location → (LatchOf l r → ⊥)
-    → readOf rs store l bank location ≡ shown l (getD (valueOf r store) (location - r .first) 0)
+    → readByte rs store l bank location ≡ shown l (getD (valueOf r store) (location - r .first) 0)
 
 -- no answer if the location is unmapped, and the latch stays
 abbrev pub ReadNone : Type 0
 ReadNone =
     (rs : List Record) (store : List ℕ) (l : Latch) (bank location : ℕ) → holder rs bank location ≡ Nothing
-    → readOf rs store l bank location ≡ record { latch = l; answered = false; answer = 0 }
+    → readByte rs store l bank location ≡ record { latch = l; answered = false; answer = 0 }
 
 abbrev pub NoneLatchedHolds : Type 0
 NoneLatchedHolds = (rs : List Record) → latchHolds rs noneLatched ≡ true

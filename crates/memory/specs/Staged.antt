@@ -67,5 +67,5 @@ writeAt rs store g location byte (At r) = writeFound rs store g r location byte
 writeAt rs store g location byte Nothing = dropped store
 
 -- an executed write of the byte at the bank and location
-unfoldable pub writeOf : List Record → List ℕ → Staged → ℕ → ℕ → ℕ → Outcome Wrote
-writeOf rs store g bank location byte = writeAt rs store g location byte (holder rs bank location)
+unfoldable pub writeByte : List Record → List ℕ → Staged → ℕ → ℕ → ℕ → Outcome Wrote
+writeByte rs store g bank location byte = writeAt rs store g location byte (holder rs bank location)

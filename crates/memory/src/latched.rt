@@ -7,7 +7,7 @@ ghost use Rattle.records.specs.Map.{recordsOf};
 ghost use Rattle.banks.specs.Rules.{placed};
 ghost use Rattle.banks.specs.Values.{valueOf};
 ghost use Rattle.memory.specs.Reach.{Reaches};
-ghost use Rattle.memory.specs.Latched.{noneLatched, latches, latchFrom, shown, showByte, readOf};
+ghost use Rattle.memory.specs.Latched.{noneLatched, latches, latchFrom, shown, showByte, readByte};
 use banks::padded_part;
 use records::Found;
 use records::Record;
@@ -103,7 +103,7 @@ fn show_value(store: &[u8], l: Latch, r: Record, location: u8) -> Shown
 // Internal: READ at a location of a mapped bank.
 pub fn read_byte(map: &[u8], store: &[u8], latch: Latch, bank: u8, location: u8) -> Shown
     requires { ⌜ placed (now map) (length (now store)) ≡ true ⌝ }
-    ensures { λ a. ⌜ a ≡ readOf (recordsOf (now (map .entry))) (now (store .entry)) latch bank location ⌝ }
+    ensures { λ a. ⌜ a ≡ readByte (recordsOf (now (map .entry))) (now (store .entry)) latch bank location ⌝ }
 {
     match lookup(map, bank, location) {
         Found::At(r) => show_value(store, latch, r, location),

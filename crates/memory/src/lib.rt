@@ -2,7 +2,7 @@
 mod staged; // an executed write
 mod latched; // READ and the latch
 mod filled; // reset and power-on
-mod rooms; // rules of a state
+mod rules; // rules of a state
 
 pub use filled::Filling;
 pub use filled::fill_store;
@@ -10,8 +10,8 @@ pub use latched::Latch;
 pub use latched::Shown;
 pub use latched::none_latched;
 pub use latched::read_byte;
-pub use rooms::latch_holds;
-pub use rooms::staged_holds;
+pub use rules::latch_holds;
+pub use rules::staged_holds;
 pub use staged::Staged;
 pub use staged::Wrote;
 pub use staged::none_staged;

@@ -8,7 +8,7 @@ ghost use Rattle.records.specs.Map.{recordsOf};
 ghost use Rattle.banks.specs.Rules.{placed};
 ghost use Rattle.memory.specs.Reach.{Reaches};
 ghost use Rattle.memory.specs.Staged.{noneStaged, isNext, unlocked, taken, bytesWith, wrote, takeByte};
-ghost use Rattle.memory.specs.Staged.{writeFound, writeOf};
+ghost use Rattle.memory.specs.Staged.{writeFound, writeByte};
 use banks::lock_byte;
 use banks::put_value;
 use records::Found;
@@ -137,7 +137,7 @@ pub fn write_byte(
 ) -> Wrote
     requires { ⌜ placed (now map) (length (now store)) ≡ true ⌝ }
     ensures { λ a. ⌜ Gives a (now (store .exit))
-        (writeOf (recordsOf (now (map .entry))) (now (store .entry)) staged bank location byte) ⌝ }
+        (writeByte (recordsOf (now (map .entry))) (now (store .entry)) staged bank location byte) ⌝ }
 {
     match lookup(map, bank, location) {
         Found::At(r) => write_found(map, store, staged, r, location, byte),

@@ -12,9 +12,9 @@ use Rattle.records.specs.Order.{sizeHolds}
 use Rattle.records.specs.Lookup.{holder, ifFirst, beginner}
 use Rattle.banks.specs.Rules.{lengthsHold, placesHold, bankHolds, banksHold, headByteHolds, headHolds, headBytesHold}
 use Rattle.banks.specs.Values.{valueOf, putValue, byteAt, lockByte}
-use Rattle.memory.specs.Staged.{unlocked, taken, bytesWith, takeByte, writeFound, writeAt, writeOf}
-use Rattle.memory.specs.Latched.{latchFrom, showByte, readAt, readOf as shownOf}
-use Rattle.memory.specs.Rooms.{stagedIn, stagedHolds, latchedIn, latchHolds, zeroFrom}
+use Rattle.memory.specs.Staged.{unlocked, taken, bytesWith, takeByte, writeFound, writeAt, writeByte}
+use Rattle.memory.specs.Latched.{latchFrom, showByte, readAt, readByte as shownOf}
+use Rattle.memory.specs.Rules.{stagedIn, stagedHolds, latchedIn, latchHolds, zeroFrom}
 use Rattle.hearing.specs.Meaning.{deviceCommand, firstSpecial, specialCommand, meaningOf}
 use Rattle.hearing.specs.Pairs.{passed, inTime, completes}
 use Rattle.rooms.specs.State.{withWho, withRegisters, withWaiting, withDoor, withLatch, poweredOn, zeroState}
@@ -38,7 +38,7 @@ unfolding deviceCommand firstSpecial specialCommand meaningOf passed inTime comp
 meaning = tt
 
 unfoldable pub storing : Unit {0}
-unfolding unlocked taken bytesWith takeByte writeFound writeAt writeOf latchFrom showByte readAt shownOf
+unfolding unlocked taken bytesWith takeByte writeFound writeAt writeByte latchFrom showByte readAt shownOf
 storing = tt
 
 unfoldable pub keeping : Unit {0}

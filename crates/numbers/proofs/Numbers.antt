@@ -14,8 +14,8 @@ use Rattle.laws.proofs.Joined.{joined-none, joined-some}
 use Rattle.laws.proofs.Settled.{settles}
 use Rattle.records.specs.Map.{recordsOf}
 use Rattle.banks.specs.Rules.{checkTests, checkNumber}
-use Rattle.hearing.specs.declared.rooms.Heard.{Heard}
-use Rattle.hearing.specs.declared.rooms.Who.{Who}
+use Rattle.hearing.specs.declared.heard.Heard.{Heard}
+use Rattle.hearing.specs.declared.heard.Who.{Who}
 use Rattle.rooms.specs.Rules.{addressHolds, stateHolds}
 use Rattle.rooms.specs.declared.state.State.{State}
 use Rattle.numbers.specs.Numbers.{startTests, startNumber, powerTests, powerNumber, heardTests, heardNumber}
@@ -51,60 +51,60 @@ abbrev pub powersBehind : List ℕ → List ℕ → State → List Test
 powersBehind map store s = test 12 (stateHolds (recordsOf map) store s) ∷ []
 
 -- 7 to 11 give their number, or the tests behind them do
-module _ (map store : List ℕ) (kept : ℕ) (us : List Test) where
-  checks-first : 0 < checkNumber map store kept
-      → firstFailing (checkTests map store kept ++ us) ≡ checkNumber map store kept
+module _ (map store : List ℕ) (size : ℕ) (us : List Test) where
+  checks-first : 0 < checkNumber map store size
+      → firstFailing (checkTests map store size ++ us) ≡ checkNumber map store size
   unfolding checkNumber
-  checks-first h = joined-some (checkTests map store kept) us (checkNumber map store kept) h refl
+  checks-first h = joined-some (checkTests map store size) us (checkNumber map store size) h refl
 
-  checks-passed : checkNumber map store kept ≡ 0 → firstFailing (checkTests map store kept ++ us) ≡ firstFailing us
+  checks-passed : checkNumber map store size ≡ 0 → firstFailing (checkTests map store size ++ us) ≡ firstFailing us
   unfolding checkNumber
-  checks-passed e = joined-none (checkTests map store kept) us refl e
+  checks-passed e = joined-none (checkTests map store size) us refl e
 
-module _ (map store : List ℕ) (kept : ℕ) (s : State) where
-  power-first : 0 < checkNumber map store kept → powerNumber map store kept s ≡ checkNumber map store kept
+module _ (map store : List ℕ) (size : ℕ) (s : State) where
+  power-first : 0 < checkNumber map store size → powerNumber map store size s ≡ checkNumber map store size
   unfolding powerNumber
-  power-first = checks-first map store kept _
+  power-first = checks-first map store size _
 
-  power-then : checkNumber map store kept ≡ 0
-      → powerNumber map store kept s ≡ (if stateHolds (recordsOf map) store s then 0 else 12)
+  power-then : checkNumber map store size ≡ 0
+      → powerNumber map store size s ≡ (if stateHolds (recordsOf map) store s then 0 else 12)
   unfolding powerNumber firstFailing
-  power-then = checks-passed map store kept (powersBehind map store s)
+  power-then = checks-passed map store size (powersBehind map store s)
 
   -- 7 to 12 give their number, or what is heard does
   module _ (heard : Heard) where
-    step-powered : 0 < powerNumber map store kept s → stepNumber map store kept s heard ≡ powerNumber map store kept s
+    step-powered : 0 < powerNumber map store size s → stepNumber map store size s heard ≡ powerNumber map store size s
     unfolding powerNumber stepNumber
-    step-powered h = joined-some (powerTests map store kept s) (heardTests map store s heard) _ h refl
+    step-powered h = joined-some (powerTests map store size s) (heardTests map store s heard) _ h refl
 
-    step-heard : powerNumber map store kept s ≡ 0 → stepNumber map store kept s heard ≡ heardNumber map store s heard
+    step-heard : powerNumber map store size s ≡ 0 → stepNumber map store size s heard ≡ heardNumber map store s heard
     unfolding powerNumber heardNumber stepNumber
-    step-heard e = joined-none (powerTests map store kept s) (heardTests map store s heard) refl e
+    step-heard e = joined-none (powerTests map store size s) (heardTests map store s heard) refl e
 
-    step-first : 0 < checkNumber map store kept → stepNumber map store kept s heard ≡ checkNumber map store kept
+    step-first : 0 < checkNumber map store size → stepNumber map store size s heard ≡ checkNumber map store size
     step-first h = step-powered (rw (power-first h) h) ∙ power-first h
 
-    step-then : checkNumber map store kept ≡ 0
-        → stepNumber map store kept s heard
+    step-then : checkNumber map store size ≡ 0
+        → stepNumber map store size s heard
         ≡ (if stateHolds (recordsOf map) store s then (if ltb (heard .frame) 16777216 then 0 else 1) else 12)
     unfolding heardNumber firstFailing
     step-then e = go (stateHolds (recordsOf map) store s) (power-then e)
       where
-        go : (b : Bool) → powerNumber map store kept s ≡ (if b then 0 else 12)
-            → stepNumber map store kept s heard ≡ (if b then (if ltb (heard .frame) 16777216 then 0 else 1) else 12)
+        go : (b : Bool) → powerNumber map store size s ≡ (if b then 0 else 12)
+            → stepNumber map store size s heard ≡ (if b then (if ltb (heard .frame) 16777216 then 0 else 1) else 12)
         go true q = step-heard q
         go false q = step-powered (omega arith) ∙ q
 
 pub tests-in-order : TestsInOrder
 unfolding startNumber firstFailing
-tests-in-order map store kept =
+tests-in-order map store size =
     record {
-      start-first = λ who. checks-first map store kept (startsBehind who);
-      power-first = power-first map store kept;
-      step-first = step-first map store kept;
-      start-then = λ who. checks-passed map store kept (startsBehind who);
-      power-then = power-then map store kept;
-      step-then = step-then map store kept;
-      step-powered = step-powered map store kept;
-      step-heard = step-heard map store kept;
+      start-first = λ who. checks-first map store size (startsBehind who);
+      power-first = power-first map store size;
+      step-first = step-first map store size;
+      start-then = λ who. checks-passed map store size (startsBehind who);
+      power-then = power-then map store size;
+      step-then = step-then map store size;
+      step-powered = step-powered map store size;
+      step-heard = step-heard map store size;
     }

@@ -9,7 +9,7 @@ use lib.ListN.{length}
 use Rattle.records.specs.Cases.{benchMap}
 use Rattle.banks.specs.Cases.{benchStore}
 use Rattle.hearing.specs.Pairs.{heardAt}
-use Rattle.hearing.specs.declared.rooms.Heard.{Heard}
+use Rattle.hearing.specs.declared.heard.Heard.{Heard}
 use Rattle.rooms.specs.State.{withWho, withWaiting, withDoor, withLatch, poweredOn, zeroState}
 use Rattle.rooms.specs.declared.state.State.{State}
 use Rattle.numbers.specs.Numbers.{startNumber, powerNumber, stepNumber}

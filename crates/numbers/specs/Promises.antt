@@ -13,8 +13,8 @@ use Rattle.laws.specs.Numbers.{Test, Given}
 use Rattle.laws.specs.Settled.{Settles}
 use Rattle.records.specs.Map.{recordsOf}
 use Rattle.banks.specs.Rules.{checkNumber}
-use Rattle.hearing.specs.declared.rooms.Heard.{Heard}
-use Rattle.hearing.specs.declared.rooms.Who.{Who}
+use Rattle.hearing.specs.declared.heard.Heard.{Heard}
+use Rattle.hearing.specs.declared.heard.Who.{Who}
 use Rattle.rooms.specs.Rules.{addressHolds, stateHolds}
 use Rattle.rooms.specs.declared.state.State.{State}
 use Rattle.numbers.specs.Numbers.{startTests, startNumber, powerTests, powerNumber, heardNumber, stepTests}
@@ -54,26 +54,26 @@ pub record Numbered (map store image : List ℕ) : Type 0 where
       → GivenBy (stepNumber map store (length image) s heard) (stepTests map store (length image) s heard)
 
 -- the order of the tests: in each call 7 to 11 come first; then 6 at a start, 12 at a power-on, 12 and 1 at a step
-pub record InOrder (map store : List ℕ) (kept : ℕ) : Type 0 where
-  pub start-first : (who : Who) → 0 < checkNumber map store kept
-      → startNumber map store kept who ≡ checkNumber map store kept
-  pub power-first : (s : State) → 0 < checkNumber map store kept
-      → powerNumber map store kept s ≡ checkNumber map store kept
-  pub step-first : (s : State) (heard : Heard) → 0 < checkNumber map store kept
-      → stepNumber map store kept s heard ≡ checkNumber map store kept
-  pub start-then : (who : Who) → checkNumber map store kept ≡ 0
-      → startNumber map store kept who ≡ (if addressHolds (who .address) then 0 else 6)
-  pub power-then : (s : State) → checkNumber map store kept ≡ 0
-      → powerNumber map store kept s ≡ (if stateHolds (recordsOf map) store s then 0 else 12)
-  pub step-then : (s : State) (heard : Heard) → checkNumber map store kept ≡ 0
-      → stepNumber map store kept s heard
+pub record OrderOfTests (map store : List ℕ) (size : ℕ) : Type 0 where
+  pub start-first : (who : Who) → 0 < checkNumber map store size
+      → startNumber map store size who ≡ checkNumber map store size
+  pub power-first : (s : State) → 0 < checkNumber map store size
+      → powerNumber map store size s ≡ checkNumber map store size
+  pub step-first : (s : State) (heard : Heard) → 0 < checkNumber map store size
+      → stepNumber map store size s heard ≡ checkNumber map store size
+  pub start-then : (who : Who) → checkNumber map store size ≡ 0
+      → startNumber map store size who ≡ (if addressHolds (who .address) then 0 else 6)
+  pub power-then : (s : State) → checkNumber map store size ≡ 0
+      → powerNumber map store size s ≡ (if stateHolds (recordsOf map) store s then 0 else 12)
+  pub step-then : (s : State) (heard : Heard) → checkNumber map store size ≡ 0
+      → stepNumber map store size s heard
       ≡ (if stateHolds (recordsOf map) store s then (if ltb (heard .frame) 16777216 then 0 else 1) else 12)
   -- so a step has the number of a power-on, or where that is 0 the number of what is heard: who runs many frames tests
   -- 7 to 12 once, and then each frame
-  pub step-powered : (s : State) (heard : Heard) → 0 < powerNumber map store kept s
-      → stepNumber map store kept s heard ≡ powerNumber map store kept s
-  pub step-heard : (s : State) (heard : Heard) → powerNumber map store kept s ≡ 0
-      → stepNumber map store kept s heard ≡ heardNumber map store s heard
+  pub step-powered : (s : State) (heard : Heard) → 0 < powerNumber map store size s
+      → stepNumber map store size s heard ≡ powerNumber map store size s
+  pub step-heard : (s : State) (heard : Heard) → powerNumber map store size s ≡ 0
+      → stepNumber map store size s heard ≡ heardNumber map store s heard
 
 abbrev pub NumbersSettled : Type 0
 NumbersSettled = (map store image : List ℕ) → Settled map store image
@@ -82,4 +82,4 @@ abbrev pub CallsNumbered : Type 0
 CallsNumbered = (map store image : List ℕ) → Numbered map store image
 
 abbrev pub TestsInOrder : Type 0
-TestsInOrder = (map store : List ℕ) (kept : ℕ) → InOrder map store kept
+TestsInOrder = (map store : List ℕ) (size : ℕ) → OrderOfTests map store size

@@ -10,8 +10,8 @@ use Rattle.laws.specs.Bits.{bits}
 use Rattle.laws.specs.Lists.{every}
 use Rattle.laws.specs.Parts.{part}
 use Rattle.memory.specs.declared.latched.Latch.{Latch}
-use Rattle.hearing.specs.declared.rooms.Who.{Who}
-use Rattle.hearing.specs.declared.rooms.Waiting.{Waiting}
+use Rattle.hearing.specs.declared.heard.Who.{Who}
+use Rattle.hearing.specs.declared.heard.Waiting.{Waiting}
 use Rattle.rooms.specs.State.{zeroState, withWho, withRegisters, withWaiting, withDoor, withLatch}
 use Rattle.rooms.specs.declared.state.Registers.{Registers}
 use Rattle.rooms.specs.declared.state.Door.{Door}

@@ -16,7 +16,7 @@ use Rattle.laws.proofs.Sides.{either, or-left, or-right, and-left, and-right}
 use Rattle.laws.proofs.Members.{every-of, items-member}
 use Rattle.records.specs.Map.{recordAt, recordsOf, writable, locationsEnd}
 use Rattle.records.specs.Order.{lockableHolds, fieldsHold, before, risingFrom, rising, ordered}
-use Rattle.records.specs.Facts.{Fielded, Before}
+use Rattle.records.specs.Facts.{FieldsHold, Before}
 use Rattle.records.specs.Promises.{MemberFields, MembersRise}
 use Rattle.records.specs.declared.record.Record.{Record}
 
@@ -30,7 +30,7 @@ locked r e =
     (λ t. let b = both (eqb (r .lockable) 1) (writable r) t in inr (eqb-true (r .lockable) 1 (b .0), b .1))
     (either (eqb (r .lockable) 0) (eqb (r .lockable) 1 && writable r) e)
 
-pub fielded : (r : Record) → fieldsHold r ≡ true → Fielded r
+pub fielded : (r : Record) → fieldsHold r ≡ true → FieldsHold r
 fielded r e =
     record {
       low-bank = search parts depth 8;

@@ -10,7 +10,7 @@ pub use Rattle.records.specs.Bench.{benchMap}
 
 -- a record of the map: bank, first location, width, kind, lockable, zero, store offset
 abbrev pub row : ℕ → ℕ → ℕ → ℕ → ℕ → ℕ → ℕ → ℕ → List ℕ
-row bank first width kind lockable fifth high low = bank ∷ first ∷ width ∷ kind ∷ lockable ∷ fifth ∷ high ∷ low ∷ []
+row bank first width kind lockable zero high low = bank ∷ first ∷ width ∷ kind ∷ lockable ∷ zero ∷ high ∷ low ∷ []
 
 -- the byte at 0x00 and the lock byte of a bank, at the first two places of the store
 abbrev pub head : ℕ → List ℕ

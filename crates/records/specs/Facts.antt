@@ -13,7 +13,7 @@ abbrev pub Member : Record → List ℕ → Type 0
 Member r map = List·Memᴰ r (recordsOf map)
 
 -- 8
-pub record Fielded (r : Record) : Type 0 where
+pub record FieldsHold (r : Record) : Type 0 where
   pub low-bank : r .bank ≤ 199
   pub some-width : 1 ≤ r .width
   pub most-width : r .width ≤ 8

@@ -11,7 +11,7 @@ use Rattle.laws.specs.Settled.{Settles}
 use Rattle.records.specs.Map.{recordAt, recordsOf, mapped}
 use Rattle.records.specs.Order.{ordered, orderTests, orderNumber}
 use Rattle.records.specs.Lookup.{holds, holder, beginner}
-use Rattle.records.specs.Facts.{Member, Fielded, Before, Holds}
+use Rattle.records.specs.Facts.{Member, FieldsHold, Before, Holds}
 use Rattle.records.specs.declared.record.Record.{Record}
 use Rattle.records.specs.declared.holder.Beginning.the-variants.{Begins}
 use Rattle.records.specs.declared.holder.Found.the-variants.{At, Nothing}
@@ -30,7 +30,7 @@ OrderStands = (map : List ℕ) → (orderNumber map ≡ 0) ↔ (ordered map ≡ 
 
 -- 8
 abbrev pub MemberFields : Type 0
-MemberFields = (map : List ℕ) → ordered map ≡ true → (r : Record) → Member r map → Fielded r
+MemberFields = (map : List ℕ) → ordered map ≡ true → (r : Record) → Member r map → FieldsHold r
 
 -- 9: of two records the one with the lower number stands before
 abbrev pub MembersRise : Type 0

@@ -6,15 +6,15 @@ use Prim.Native.Nat.{ℕ}
 use lib.Dec.{eqb}
 use lib.ListN.{getD}
 use Rattle.laws.specs.Choice.{if_then_else_}
-use Rattle.rooms.specs.Codes.{Code, codeOf, OneDue}
+use Rattle.rooms.specs.Codes.{DueCode, dueCode, OneDue}
 use Rattle.rooms.specs.declared.due.Due.{Due}
 use Rattle.rooms.specs.declared.due.Due.the-variants.{Nothing, Waits, Opens, Resets, Becomes, Loads, Answers}
 use Rattle.rooms.specs.declared.due.Due.the-variants.{Writes, Reads}
 
-value : Code → ℕ → ℕ
+value : DueCode → ℕ → ℕ
 value c k = getD (c .values) k 0
 
-back : Code → Due
+back : DueCode → Due
 back c =
     if eqb (c .number) 0 then Nothing
     else if eqb (c .number) 1 then Waits
@@ -26,7 +26,7 @@ back c =
     else if eqb (c .number) 7 then Writes (value c 0) (value c 1) (value c 2) (eqb (value c 3) 1)
     else Reads (value c 0) (value c 1)
 
-back-is : (due : Due) → back (codeOf due) ≡ due
+back-is : (due : Due) → back (dueCode due) ≡ due
 unfolding back value
 back-is Nothing = refl
 back-is Waits = refl

@@ -3,7 +3,7 @@
 use mathlib.Core.Path.{_≡_, refl}
 use Rattle.memory.specs.Latched.{noneLatched}
 use Rattle.hearing.specs.Pairs.{noneWaits}
-use Rattle.hearing.specs.declared.rooms.Who.{Who}
+use Rattle.hearing.specs.declared.heard.Who.{Who}
 use Rattle.rooms.specs.State.{withWho, withRegisters, withWaiting, withDoor, withLatch, zeroRegisters, shutDoor}
 use Rattle.rooms.specs.State.{poweredOn}
 use Rattle.rooms.specs.declared.state.State.{State}

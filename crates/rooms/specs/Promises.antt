@@ -5,7 +5,7 @@ use Prim.Native.Nat.{ℕ}
 use mathlib.Core.Path.{_≡_}
 use mathlib.Core.Bool.{false}
 use Rattle.laws.specs.Choice.{if_then_else_}
-use Rattle.hearing.specs.declared.rooms.Who.{Who}
+use Rattle.hearing.specs.declared.heard.Who.{Who}
 use Rattle.rooms.specs.State.{poweredOn}
 use Rattle.rooms.specs.Rules.{addressHolds}
 use Rattle.rooms.specs.Due.{shortDue}

@@ -6,7 +6,7 @@ use mathlib.Core.List.{List}
 use lib.Dec.{leb, eqb}
 use Rattle.laws.specs.Choice.{if_then_else_}
 use Rattle.records.specs.declared.record.Record.{Record}
-use Rattle.memory.specs.Rooms.{stagedHolds, latchHolds}
+use Rattle.memory.specs.Rules.{stagedHolds, latchHolds}
 use Rattle.hearing.specs.Meaning.{meaningOf}
 use Rattle.hearing.specs.declared.meaning.Meaning.{Meaning}
 use Rattle.hearing.specs.declared.meaning.Meaning.the-variants.{Foreign, NotObeyed, AtOnce, NeedsPair}

@@ -6,8 +6,8 @@ use Rattle.memory.specs.Staged.{noneStaged}
 use Rattle.memory.specs.Latched.{noneLatched}
 use Rattle.memory.specs.declared.latched.Latch.{Latch}
 use Rattle.hearing.specs.Pairs.{noneWaits}
-use Rattle.hearing.specs.declared.rooms.Who.{Who}
-use Rattle.hearing.specs.declared.rooms.Waiting.{Waiting}
+use Rattle.hearing.specs.declared.heard.Who.{Who}
+use Rattle.hearing.specs.declared.heard.Waiting.{Waiting}
 use Rattle.rooms.specs.declared.state.Registers.{Registers}
 use Rattle.rooms.specs.declared.state.Door.{Door}
 use Rattle.rooms.specs.declared.state.State.{State}

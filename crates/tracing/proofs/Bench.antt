@@ -15,20 +15,20 @@ use Rattle.banks.specs.Rules.{checkNumber}
 use Rattle.numbers.proofs.Numbers.{tests-in-order}
 use Rattle.unit.specs.Run.{Input, runOf}
 use Rattle.unit.specs.Bench.{benchMap, benchStore, benchImage, benchWho, benchRun, p11, p12, late, overrun}
-use Rattle.unit.specs.Bench.{Line, says, Runs, Hold}
+use Rattle.unit.specs.Bench.{Line, says, BenchRuns, LinesHold}
 use Rattle.unit.proofs.Bench.{sheet-holds}
 use Rattle.unit.proofs.Numbers.{calls-reply}
-use Rattle.entries.specs.Entry.{entryOf, entryAt, wholeRecords, isBroken}
+use Rattle.entries.specs.Entry.{entryOf, entryAt, wholeEntries, isBroken}
 use Rattle.tracing.specs.Trace.{inputsOf, broken, tracedOf, whoOf, fileNumber, closed, traceOf}
 use Rattle.tracing.specs.Bench.{benchAdr, p11Records, benchTrace, BenchTraces, BenchFiles}
 use Rattle.tracing.proofs.Starts.{files-numbered}
 
 -- the runs' lines stand behind the frames'
-runs-lines : (cases : List Case) (lines : List Line) → Hold (map says cases ++ lines) → Hold lines
+runs-lines : (cases : List Case) (lines : List Line) → LinesHold (map says cases ++ lines) → LinesHold lines
 runs-lines [] lines h = h
 runs-lines (c ∷ cases) lines h = runs-lines cases lines (h .1)
 
-lines : Hold (p11 ∷ p12 ∷ late ∷ overrun ∷ [])
+lines : LinesHold (p11 ∷ p12 ∷ late ∷ overrun ∷ [])
 lines = runs-lines framesSheet (p11 ∷ p12 ∷ late ∷ overrun ∷ []) sheet-holds
 
 -- start accepts the files, so 7 to 11 are passed
@@ -49,12 +49,12 @@ accepted = files-numbered benchMap benchStore 6 benchAdr .last checked ∙ rw fi
 -- records whose inputs are those of a line: what the line writes, 13 for a record of unknown kind or an unfinished one,
 -- and the line's store
 module _ (records : List ℕ) {inputs : List Input} {output store : List ℕ}
-    (e : inputsOf (wholeRecords records) ≡ inputs) (r : Runs inputs output store) where
+    (e : inputsOf (wholeEntries records) ≡ inputs) (r : BenchRuns inputs output store) where
   bench : benchTrace benchAdr records
       ≡ closed (length records % 8)
       (record {
-        output = output ++ (if some isBroken (wholeRecords records) then broken else []);
-        ended = some isBroken (wholeRecords records);
+        output = output ++ (if some isBroken (wholeEntries records) then broken else []);
+        ended = some isBroken (wholeEntries records);
         state = benchRun inputs .state;
         store = store;
       })

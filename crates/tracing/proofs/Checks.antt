@@ -15,13 +15,13 @@ use Rattle.banks.specs.Rules.{checkNumber}
 use Rattle.banks.specs.Facts.{Stands}
 use Rattle.banks.proofs.Standing.{stands}
 use Rattle.hearing.specs.Pairs.{heardAt}
-use Rattle.hearing.specs.declared.rooms.Heard.{Heard}
+use Rattle.hearing.specs.declared.heard.Heard.{Heard}
 use Rattle.rooms.specs.Reply.{refusing}
 use Rattle.rooms.specs.declared.state.State.{State}
 use Rattle.rooms.specs.declared.reply.Stepped.{Stepped}
 use Rattle.numbers.specs.Numbers.{powerNumber, heardNumber, stepNumber}
 use Rattle.numbers.proofs.Numbers.{tests-in-order}
-use Rattle.unit.specs.Step.{frameOf, powerOf, stepOf, powerOnOf}
+use Rattle.unit.specs.Step.{frameStep, powerStep, stepOf, powerOnOf}
 use Rattle.unit.proofs.Numbers.{calls-accepted, calls-refused}
 use Rattle.unit.proofs.Accepted.{accepted-again}
 use Rattle.entries.specs.Entry.{isBroken}
@@ -29,18 +29,18 @@ use Rattle.entries.specs.declared.entry.Entry.{Entry}
 use Rattle.tracing.specs.Run.{turnOf}
 use Rattle.tracing.specs.Promises.{OneCheck}
 
-module _ (map store : List ℕ) (kept : ℕ) (s : State) where
+module _ (map store : List ℕ) (size : ℕ) (s : State) where
   -- 7 to 12 are passed, so 7 to 11 are
-  pub check-passed : powerNumber map store kept s ≡ 0 → checkNumber map store kept ≡ 0
+  pub check-passed : powerNumber map store size s ≡ 0 → checkNumber map store size ≡ 0
   check-passed e =
-      ⊎-elim (λ z. z) (λ h. absurd (omega (arith, tests-in-order map store kept .power-first s h)))
-      (eq-zero-or-pos (checkNumber map store kept))
+      ⊎-elim (λ z. z) (λ h. absurd (omega (arith, tests-in-order map store size .power-first s h)))
+      (eq-zero-or-pos (checkNumber map store size))
 
   -- a frame is accepted, so 7 to 12 are passed
-  power-passed : (heard : Heard) → stepNumber map store kept s heard ≡ 0 → powerNumber map store kept s ≡ 0
+  power-passed : (heard : Heard) → stepNumber map store size s heard ≡ 0 → powerNumber map store size s ≡ 0
   power-passed heard e =
-      ⊎-elim (λ z. z) (λ h. absurd (omega (arith, tests-in-order map store kept .step-powered s heard h)))
-      (eq-zero-or-pos (powerNumber map store kept s))
+      ⊎-elim (λ z. z) (λ h. absurd (omega (arith, tests-in-order map store size .step-powered s heard h)))
+      (eq-zero-or-pos (powerNumber map store size s))
 
 pub one-check : OneCheck
 unfolding turnOf refusing
@@ -81,7 +81,7 @@ module _ (map image store : List ℕ) (s : State) (e : Entry) (n : ℕ)
   pub stands-there : n ≡ 0 → Stands map store (length image)
   stands-there z = stands map store (length image) (check-passed map store (length image) s (sym checked ∙ z))
 
-  pub turn-powers : e ≡ Entry.PowerOn → n ≡ 0 → turnOf map image store s e ≡ powerOf (recordsOf map) store image s
+  pub turn-powers : e ≡ Entry.PowerOn → n ≡ 0 → turnOf map image store s e ≡ powerStep (recordsOf map) store image s
   unfolding turnOf
   turn-powers q z = rw q (calls-accepted map store image .power-on s (sym checked ∙ z))
 
@@ -95,6 +95,6 @@ module _ (map image store : List ℕ) (s : State) (e : Entry) (n : ℕ)
     unfolding turnOf stepOf
     turn-unheard some r p = rw (q, ← h, step-is, ne-eqb m 0 some) (record { answer = p; store = refl })
 
-    pub turn-hears : m ≡ 0 → turnOf map image store s e ≡ frameOf (recordsOf map) store image s heard
+    pub turn-hears : m ≡ 0 → turnOf map image store s e ≡ frameStep (recordsOf map) store image s heard
     unfolding turnOf
     turn-hears y = rw (q, ← h) (calls-accepted map store image .step s heard (step-is ∙ y))

@@ -16,7 +16,7 @@ use Rattle.unit.specs.Run.{power-on, hears, inputOf, outputOf}
 use Rattle.entries.specs.Entry.{isBroken}
 use Rattle.tracing.specs.Trace.{Traced, tracedOf, broken, closed}
 use Rattle.tracing.specs.Run.{behind, continued}
-use Rattle.tracing.specs.Promises.{OneAfterOther, answered, FourEach, ThirteenEnds}
+use Rattle.tracing.specs.Promises.{OneAfterOther, answeredCount, FourEach, ThirteenEnds}
 use Rattle.entries.specs.declared.entry.Entry.{Entry}
 
 module _ (map image : List ℕ) where

@@ -11,7 +11,7 @@ use Rattle.laws.specs.Lists.{every}
 use Rattle.laws.proofs.Tests.{both}
 use Rattle.rooms.specs.declared.state.State.{State}
 use Rattle.unit.specs.Step.{startOf}
-use Rattle.entries.specs.Entry.{wholeRecords}
+use Rattle.entries.specs.Entry.{wholeEntries}
 use Rattle.entries.specs.Promises.{isWhole}
 use Rattle.entries.proofs.Joined.{whole-joined}
 use Rattle.tracing.specs.Trace.{Traced, tracedOf, whoOf, fileNumber, closed, traceOf}
@@ -28,12 +28,12 @@ joined-whole (slice ∷ slices) h =
     omega (arith, length-append slice (joined slices))
 
 in-slices : (map image : List ℕ) (t : Traced) (slices : List (List ℕ)) → every isWhole slices ≡ true
-    → inSlices map image t slices ≡ continued map image t (wholeRecords (joined slices))
+    → inSlices map image t slices ≡ continued map image t (wholeEntries (joined slices))
 in-slices map image t [] h = sym (continued-none map image t)
 in-slices map image t (slice ∷ slices) h =
     let p = both (isWhole slice) (every isWhole slices) h in
-    in-slices map image (continued map image t (wholeRecords slice)) slices (p .1)
-    ∙ sym (continued-more map image t (wholeRecords slice) (wholeRecords (joined slices)))
+    in-slices map image (continued map image t (wholeEntries slice)) slices (p .1)
+    ∙ sym (continued-more map image t (wholeEntries slice) (wholeEntries (joined slices)))
     ∙ ap (continued map image t) (sym (whole-joined slice (joined slices) (eqb-true (length slice % 8) 0 (p .0))))
 
 begun-continued : (map image store : List ℕ) (s : State) (es : List _)
@@ -48,8 +48,8 @@ cut-anywhere map store image adr slices rest h short z =
     let whole = joined-whole slices h in
     let left : length (joined slices ++ rest) % 8 ≡ length rest = omega (arith, length-append (joined slices) rest) in
     let none : length rest / 8 ≡ 0 = omega arith in
-    let same : wholeRecords (joined slices ++ rest) ≡ wholeRecords (joined slices) =
+    let same : wholeEntries (joined slices ++ rest) ≡ wholeEntries (joined slices) =
     whole-joined (joined slices) rest whole ∙ rw (none, append-nil) in
     let all = in-slices map image (begun (o .store) (o .answer .state)) slices h
-    ∙ begun-continued map image (o .store) (o .answer .state) (wholeRecords (joined slices)) in
+    ∙ begun-continued map image (o .store) (o .answer .state) (wholeEntries (joined slices)) in
     rw (eq-eqb (fileNumber map store (length image) adr) 0 z, left, same, all)

@@ -12,8 +12,8 @@ use lib.Seq.{take-at, drop-at, length-take-le}
 use Rattle.laws.proofs.Sides.{and-right}
 use Rattle.laws.proofs.Tests.{denied}
 use Rattle.rooms.specs.declared.state.State.{State}
-use Rattle.entries.specs.Entry.{entries, wholeRecords}
-use Rattle.entries.specs.Slices.{Keeps}
+use Rattle.entries.specs.Entry.{entries, wholeEntries}
+use Rattle.entries.specs.Slices.{KeepsRest}
 use Rattle.entries.specs.declared.entry.Entry.{Entry}
 use Rattle.tracing.specs.Trace.{Traced, tracedOf}
 use Rattle.tracing.specs.Run.{continued, roomFor, Runs}
@@ -40,7 +40,7 @@ module _ (map image : List ℕ) (flow : Flow) (store input : List ℕ) (filled :
   over slice n = tracedOf map image store (flow .state) (entries slice n)
 
   whole-run : over (take filled input) (roomFor (length (take filled input)) (length output))
-      ≡ tracedOf map image store (flow .state) (wholeRecords (take filled input))
+      ≡ tracedOf map image store (flow .state) (wholeEntries (take filled input))
   whole-run =
       ap (over (take filled input))
       (all-room (length (take filled input)) (length output)
@@ -50,7 +50,7 @@ module _ (map image : List ℕ) (flow : Flow) (store input : List ℕ) (filled :
   pub goes-on : (ran : Ran) (after answers left : List ℕ) (kept : ℕ) (unfinished more : Bool)
       → Runs ran after answers output
       (over (take (filled - 0) input) (roomFor (length (take (filled - 0) input)) (length output)))
-      → length answers ≡ length output → Keeps kept input left filled
+      → length answers ≡ length output → KeepsRest kept input left filled
       → unfinished ≡ unfinishedOf kept (ran .ended) → more ≡ moreOf (flow .kept) filled (ran .ended)
       → GoOnPromise map image flow
       (record {
@@ -64,11 +64,11 @@ module _ (map image : List ℕ) (flow : Flow) (store input : List ℕ) (filled :
       store after input left filled output answers
   unfolding continued
   goes-on ran after answers left kept unfinished more q l k u m =
-      let t = tracedOf map image store (flow .state) (wholeRecords (take filled input)) in
+      let t = tracedOf map image store (flow .state) (wholeEntries (take filled input)) in
       let from-0 : filled - 0 ≡ filled = omega arith in
       let r : Runs ran after answers output t = rw (from-0, whole-run) at q in
       let n : 4 * ran .count ≡ length (t .output) =
-      answers-are map image store (flow .state) (wholeRecords (take filled input)) (ran .count) (r .count) in
+      answers-are map image store (flow .state) (wholeEntries (take filled input)) (ran .count) (r .count) in
       record {
         traces = λ written.
             rw (h .not-ended, r .state, r .ended, r .leaves, n, r .writes)
@@ -78,7 +78,7 @@ module _ (map image : List ℕ) (flow : Flow) (store input : List ℕ) (filled :
         rest-stays =
             rw (n, r .writes)
             (drop-at (t .output) (drop (length (t .output)) output) (length (t .output)) refl);
-        keeps = k;
+        keeps-rest = k;
         unfinished = u;
         more = m;
       }
@@ -94,7 +94,7 @@ pub flows-again : {map image : List ℕ} {flow next : Flow} {store after input l
     → GoOnPromise map image flow next store after input left filled output answers → Flows next
 flows-again {flow = flow} {next = next} {filled = filled} g =
     record {
-      few = g .keeps .few;
+      few = g .keeps-rest .few;
       not-ended = λ e.
           denied (next .ended) (and-right (ltb (flow .kept) filled) (not (next .ended)) (sym (g .more) ∙ e));
     }

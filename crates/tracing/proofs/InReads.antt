@@ -12,7 +12,7 @@ use lib.Seq.{drop-at, drop-drop, length-take-le}
 use Rattle.laws.specs.Choice.{if_then_else_}
 use Rattle.rooms.specs.declared.state.State.{State}
 use Rattle.unit.specs.Step.{startOf}
-use Rattle.entries.specs.Entry.{wholeRecords}
+use Rattle.entries.specs.Entry.{wholeEntries}
 use Rattle.entries.specs.declared.entry.Entry.{Entry}
 use Rattle.entries.proofs.Joined.{whole-joined}
 use Rattle.entries.proofs.Moved.{rest-kept, rest-settled}
@@ -42,25 +42,25 @@ module _ (slice more : List ℕ) where
   rest-short : length (restOf slice) ≡ length slice % 8
   rest-short = omega (arith, length-drop front slice)
 
-few-none : (l : List ℕ) → length l < 8 → wholeRecords l ≡ []
+few-none : (l : List ℕ) → length l < 8 → wholeEntries l ≡ []
 few-none l h = let none : length l / 8 ≡ 0 = omega arith in rw none
 
 module _ (slice more : List ℕ) where
-  whole-front : wholeRecords slice ≡ wholeRecords (take (front slice []) slice)
+  whole-front : wholeEntries slice ≡ wholeEntries (take (front slice []) slice)
   whole-front =
       let w = front-long slice [] in
       let s = rest-short slice [] in
-      ap wholeRecords (sym (take-append-drop (front slice []) slice))
+      ap wholeEntries (sym (take-append-drop (front slice []) slice))
       ∙ whole-joined (take (front slice []) slice) (restOf slice) (omega arith)
       ∙ rw (few-none (restOf slice) (omega arith), append-nil)
 
   -- the records of a slice, and then those of what waits and what follows
-  whole-cut : wholeRecords (slice ++ more) ≡ wholeRecords slice ++ wholeRecords (restOf slice ++ more)
+  whole-cut : wholeEntries (slice ++ more) ≡ wholeEntries slice ++ wholeEntries (restOf slice ++ more)
   whole-cut =
       let w = front-long slice [] in
-      ap wholeRecords (sym (parts slice more))
+      ap wholeEntries (sym (parts slice more))
       ∙ whole-joined (take (front slice []) slice) (restOf slice ++ more) (omega arith)
-      ∙ ap (λ (es : List Entry). es ++ wholeRecords (restOf slice ++ more)) (sym whole-front)
+      ∙ ap (λ (es : List Entry). es ++ wholeEntries (restOf slice ++ more)) (sym whole-front)
 
   -- and what waits then
   rest-cut : restOf (restOf slice ++ more) ≡ restOf (slice ++ more)
@@ -90,7 +90,7 @@ module _ (map image : List ℕ) where
       append-assoc (b .waits) read (joined reads) in
       reads-are (readMore map image b read) reads (omega (arith, rest-short slice []))
       ∙ rw (
-        ← continued-more map image (b .trace) (wholeRecords slice) (wholeRecords (restOf slice ++ joined reads)),
+        ← continued-more map image (b .trace) (wholeEntries slice) (wholeEntries (restOf slice ++ joined reads)),
         ← whole-cut slice (joined reads),
         rest-cut slice (joined reads),
         all,
@@ -98,7 +98,7 @@ module _ (map image : List ℕ) where
 
   from-start : (store : List ℕ) (s : State) (reads : List (List ℕ))
       → inReads map image (unread store s) reads
-      ≡ record { trace = tracedOf map image store s (wholeRecords (joined reads)); waits = restOf (joined reads) }
+      ≡ record { trace = tracedOf map image store s (wholeEntries (joined reads)); waits = restOf (joined reads) }
   unfolding continued
   from-start store s reads = reads-are (unread store s) reads (omega arith)
 
@@ -113,16 +113,16 @@ read-anyhow map store image adr reads z =
     let all = from-start map image (o .store) (o .answer .state) reads in
     let number = eq-eqb (fileNumber map store (length image) adr) 0 z in
     let rest = rest-short (joined reads) [] in
-    let t = tracedOf map image (o .store) (o .answer .state) (wholeRecords (joined reads)) in
+    let t = tracedOf map image (o .store) (o .answer .state) (wholeEntries (joined reads)) in
     record {
       all = rw (number, all, rest);
       ended = λ e more.
           let over : t .ended ≡ true = ap (λ (b : Between). b .trace .ended) (sym all) ∙ e in
-          let stays : tracedOf map image (o .store) (o .answer .state) (wholeRecords (joined reads ++ more)) ≡ t =
+          let stays : tracedOf map image (o .store) (o .answer .state) (wholeEntries (joined reads ++ more)) ≡ t =
           ap (tracedOf map image (o .store) (o .answer .state)) (whole-cut (joined reads) more)
-          ∙ one-after-other map image (o .store) (o .answer .state) (wholeRecords (joined reads))
-          (wholeRecords (restOf (joined reads) ++ more))
-          ∙ continued-ended map image t (wholeRecords (restOf (joined reads) ++ more)) over in
+          ∙ one-after-other map image (o .store) (o .answer .state) (wholeEntries (joined reads))
+          (wholeEntries (restOf (joined reads) ++ more))
+          ∙ continued-ended map image t (wholeEntries (restOf (joined reads) ++ more)) over in
           rw (number, all, stays)
           (closed-ended t (length (restOf (joined reads))) (length (joined reads ++ more) % 8) over);
     }
@@ -132,12 +132,12 @@ read-anyhow map store image adr reads z =
 pub go-on-reads : GoOnReads
 go-on-reads map image flow next store after input left filled output answers g h b read s e =
     let cut : ℕ = filled - next .kept in
-    let many = g .keeps .many in
+    let many = g .keeps-rest .many in
     let long : length (take filled input) ≡ filled = length-take-le filled input h in
     let same : cut ≡ length (take filled input) - length (take filled input) % 8 = omega arith in (
       g .traces (b .trace .output) ∙ rw (s, e),
       sym (drop-at (take cut input) (take (next .kept) left) cut (length-take-le cut input (omega arith)))
-          ∙ ap (drop cut) (rest-kept (next .kept) input left filled h (g .keeps) .all)
+          ∙ ap (drop cut) (rest-kept (next .kept) input left filled h (g .keeps-rest) .all)
           ∙ ap (λ (n : ℕ). drop n (take filled input)) same
           ∙ ap restOf e,
     )
@@ -173,11 +173,11 @@ go-on-settled map image flow q r store input filled output after stored left kep
       length-take-le (4 * r .count) written (s .within),
     ) in
     let ends : q .ended ≡ r .ended = ap (λ (x : Traced). x .ended) t in
-    let keeps = rest-settled input filled (q .kept) (r .kept) left kept (p .keeps) (s .keeps) in (
-      flow-is q r (ap (λ (x : Traced). x .state) t) (keeps .0) counts ends
-          (p .unfinished ∙ rw (keeps .0, ends, ← s .unfinished)) (p .more ∙ rw (ends, ← s .more)),
+    let keeps-rest = rest-settled input filled (q .kept) (r .kept) left kept (p .keeps-rest) (s .keeps-rest) in (
+      flow-is q r (ap (λ (x : Traced). x .state) t) (keeps-rest .0) counts ends
+          (p .unfinished ∙ rw (keeps-rest .0, ends, ← s .unfinished)) (p .more ∙ rw (ends, ← s .more)),
       ap (λ (x : Traced). x .store) t,
-      keeps .1,
+      keeps-rest .1,
       sym (take-append-drop (4 * q .count) answers)
           ∙ rw (front, p .rest-stays, counts, ← s .rest-stays) (take-append-drop (4 * r .count) written),
     )

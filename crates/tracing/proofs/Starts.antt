@@ -20,7 +20,7 @@ use Rattle.laws.proofs.Settled.{settles}
 use Rattle.records.specs.Map.{recordsOf}
 use Rattle.records.specs.Order.{sizeHolds, fieldsHold, rising}
 use Rattle.banks.specs.Rules.{lengthsHold, placesHold, checkTests, checkNumber}
-use Rattle.hearing.specs.declared.rooms.Who.{Who}
+use Rattle.hearing.specs.declared.heard.Who.{Who}
 use Rattle.rooms.specs.Rules.{addressHolds}
 use Rattle.numbers.specs.Numbers.{startNumber}
 use Rattle.tracing.specs.Trace.{whoOf, adrTests, fileTests, fileNumber, traceOf}
@@ -31,33 +31,33 @@ files-settled map store image adr = settles (fileNumber map store (length image)
 
 pub files-numbered : FilesNumbered
 unfolding fileNumber checkNumber startNumber firstFailing
-files-numbered map store kept adr =
+files-numbered map store size adr =
     record {
       exactly =
           record {
-            exactly-if = exactly-if (fileTests map store kept adr);
-            none-exactly-if = none-exactly-if (fileTests map store kept adr) refl;
+            exactly-if = exactly-if (fileTests map store size adr);
+            none-exactly-if = none-exactly-if (fileTests map store size adr) refl;
           };
-      first = λ h. joined-some (checkTests map store kept) (adrTests adr) (checkNumber map store kept) h refl;
-      last = λ z. joined-none (checkTests map store kept) (adrTests adr) refl z;
+      first = λ h. joined-some (checkTests map store size) (adrTests adr) (checkNumber map store size) h refl;
+      last = λ z. joined-none (checkTests map store size) (adrTests adr) refl z;
       start = λ e.
           ap
           (λ (b : Bool).
-          firstFailing (checkTests map store kept ++ test 6 (b && addressHolds (whoOf adr .address)) ∷ []))
+          firstFailing (checkTests map store size ++ test 6 (b && addressHolds (whoOf adr .address)) ∷ []))
           (eq-eqb (length adr) 5 e);
     }
 
 -- the code's checks, one after the other
-module _ (map store : List ℕ) (kept : ℕ) (adr : List ℕ) (n : ℕ) (e : n ≡ checkNumber map store kept) where
-  pub checks-refuse : (n ≡ 0 → ⊥) → n ≡ fileNumber map store kept adr
-  checks-refuse h = e ∙ sym (files-numbered map store kept adr .first (omega arith))
+module _ (map store : List ℕ) (size : ℕ) (adr : List ℕ) (n : ℕ) (e : n ≡ checkNumber map store size) where
+  pub checks-refuse : (n ≡ 0 → ⊥) → n ≡ fileNumber map store size adr
+  checks-refuse h = e ∙ sym (files-numbered map store size adr .first (omega arith))
 
   pub adr-decides : n ≡ 0 → (who : Who) → who ≡ whoOf adr → (holds : Bool) → holds ≡ addressHolds (who .address)
       → (passes : Bool) → (eqb (length adr) 5 && holds) ≡ passes
-      → (if passes then 0 else 6) ≡ fileNumber map store kept adr
+      → (if passes then 0 else 6) ≡ fileNumber map store size adr
   adr-decides z who w holds h passes p =
       let same : passes ≡ (eqb (length adr) 5 && addressHolds (whoOf adr .address)) = sym p ∙ rw (h, w) in
-      rw same (sym (files-numbered map store kept adr .last (sym e ∙ z)))
+      rw same (sym (files-numbered map store size adr .last (sym e ∙ z)))
 
 -- a refused start writes its 4 bytes only
 trace-refused : (map store image adr input : List ℕ) (n : ℕ) → 0 < n → fileNumber map store (length image) adr ≡ n
@@ -80,15 +80,15 @@ and-no true b e = e
 and-no false b e = refl
 
 -- 7
-long-map : (map store : List ℕ) (kept : ℕ) (adr : List ℕ) → 512 < length map → fileNumber map store kept adr ≡ 7
+long-map : (map store : List ℕ) (size : ℕ) (adr : List ℕ) → 512 < length map → fileNumber map store size adr ≡ 7
 unfolding fileNumber firstFailing sizeHolds
-long-map map store kept adr h = rw (and-no (eqb (length map % 8) 0) _ (lt-leb (length map) 512 h))
+long-map map store size adr h = rw (and-no (eqb (length map % 8) 0) _ (lt-leb (length map) 512 h))
 
 -- 10, unless 7, 8 or 9 comes first
 abbrev tenth : Bool → Bool → Bool → ℕ
-tenth size fields rise = if size then (if fields then (if rise then 10 else 9) else 8) else 7
+tenth sized fields rise = if sized then (if fields then (if rise then 10 else 9) else 8) else 7
 
-tenth-some : (size fields rise : Bool) → 0 < tenth size fields rise
+tenth-some : (sized fields rise : Bool) → 0 < tenth sized fields rise
 tenth-some true true true = omega arith
 tenth-some true true false = omega arith
 tenth-some true false rise = omega arith
@@ -97,19 +97,19 @@ tenth-some false fields rise = omega arith
 abbrev mapTenth : List ℕ → ℕ
 mapTenth map = tenth (sizeHolds (length map)) (every fieldsHold (recordsOf map)) (rising (recordsOf map))
 
-lengths-no : (stored kept : ℕ) → (4096 < stored) ⊎ (4096 < kept) → lengthsHold stored kept ≡ false
+lengths-no : (stored size : ℕ) → (4096 < stored) ⊎ (4096 < size) → lengthsHold stored size ≡ false
 unfolding lengthsHold
-lengths-no stored kept h = go (eqb stored kept) refl h
+lengths-no stored size h = go (eqb stored size) refl h
   where
-    go : (b : Bool) → eqb stored kept ≡ b → (4096 < stored) ⊎ (4096 < kept) → (b && leb stored 4096) ≡ false
+    go : (b : Bool) → eqb stored size ≡ b → (4096 < stored) ⊎ (4096 < size) → (b && leb stored 4096) ≡ false
     go false e k = refl
     go true e (inl k) = lt-leb stored 4096 k
-    go true e (inr k) = lt-leb stored 4096 (omega (arith, eqb-true stored kept e))
+    go true e (inr k) = lt-leb stored 4096 (omega (arith, eqb-true stored size e))
 
-long-store : (map store : List ℕ) (kept : ℕ) (adr : List ℕ) → (4096 < length store) ⊎ (4096 < kept)
-    → fileNumber map store kept adr ≡ mapTenth map
+long-store : (map store : List ℕ) (size : ℕ) (adr : List ℕ) → (4096 < length store) ⊎ (4096 < size)
+    → fileNumber map store size adr ≡ mapTenth map
 unfolding fileNumber firstFailing placesHold
-long-store map store kept adr h = rw (lengths-no (length store) kept h)
+long-store map store size adr h = rw (lengths-no (length store) size h)
 
 -- 6, unless 7 to 11 come first
 abbrev sixth : ℕ → ℕ

@@ -7,8 +7,8 @@ use mathlib.Core.List.{List, _++_}
 use lib.Dec.{ltb}
 use lib.ListN.{length, take, drop}
 use Rattle.rooms.specs.declared.state.State.{State}
-use Rattle.entries.specs.Entry.{wholeRecords}
-use Rattle.entries.specs.Slices.{Keeps}
+use Rattle.entries.specs.Entry.{wholeEntries}
+use Rattle.entries.specs.Slices.{KeepsRest}
 use Rattle.tracing.specs.Trace.{Traced}
 use Rattle.tracing.specs.Run.{continued}
 use Rattle.tracing.specs.declared.flows.Flow.{Flow}
@@ -47,10 +47,10 @@ pub record GoOnPromise (map image : List ℕ) (flow next : Flow) (store after in
   -- front of the output
   pub traces : (written : List ℕ)
       → standing next after (written ++ take (4 * next .count) answers)
-      ≡ continued map image (standing flow store written) (wholeRecords (take filled input))
+      ≡ continued map image (standing flow store written) (wholeEntries (take filled input))
   pub within : 4 * next .count ≤ length answers
   pub rest-stays : drop (4 * next .count) answers ≡ drop (4 * next .count) output
   -- the bytes behind the whole records wait in front
-  pub keeps : Keeps (next .kept) input left filled
+  pub keeps-rest : KeepsRest (next .kept) input left filled
   pub unfinished : next .unfinished ≡ unfinishedOf (next .kept) (next .ended)
   pub more : next .more ≡ moreOf (flow .kept) filled (next .ended)

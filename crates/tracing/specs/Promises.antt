@@ -11,13 +11,13 @@ use Rattle.laws.specs.Choice.{if_then_else_}
 use Rattle.laws.specs.Lists.{every, some}
 use Rattle.laws.specs.Settled.{Settles}
 use Rattle.banks.specs.Rules.{checkNumber}
-use Rattle.hearing.specs.declared.rooms.Who.{Who}
+use Rattle.hearing.specs.declared.heard.Who.{Who}
 use Rattle.rooms.specs.Rules.{addressHolds}
 use Rattle.rooms.specs.declared.state.State.{State}
 use Rattle.numbers.specs.Numbers.{powerNumber, startNumber}
 use Rattle.numbers.specs.Promises.{GivenBy}
 use Rattle.unit.specs.Step.{startOf}
-use Rattle.entries.specs.Entry.{entries, wholeRecords, isBroken}
+use Rattle.entries.specs.Entry.{entries, wholeEntries, isBroken}
 use Rattle.entries.specs.Promises.{isWhole}
 use Rattle.entries.specs.declared.entry.Entry.{Entry}
 use Rattle.tracing.specs.Trace.{Traced, tracedOf, broken, whoOf, fileTests, fileNumber, closed, traceOf}
@@ -38,7 +38,7 @@ begun store s = record { output = []; ended = false; state = s; store = store }
 -- slice after slice
 abbrev pub inSlices : List ℕ → List ℕ → Traced → List (List ℕ) → Traced
 inSlices map image t [] = t
-inSlices map image t (slice ∷ slices) = inSlices map image (continued map image t (wholeRecords slice)) slices
+inSlices map image t (slice ∷ slices) = inSlices map image (continued map image t (wholeEntries slice)) slices
 
 abbrev pub joined : List (List ℕ) → List ℕ
 joined [] = []
@@ -57,14 +57,14 @@ CutAnywhere = (map store image adr : List ℕ) (slices : List (List ℕ)) (rest 
 -- ---- how much is written
 
 -- the records that are answered: those up to the first broken one, and that one
-abbrev pub answered : List Entry → ℕ
-answered [] = 0
-answered (e ∷ es) = if isBroken e then 1 else suc (answered es)
+abbrev pub answeredCount : List Entry → ℕ
+answeredCount [] = 0
+answeredCount (e ∷ es) = if isBroken e then 1 else suc (answeredCount es)
 
 -- per record 4 bytes
 abbrev pub FourEach : Type 0
 FourEach = (map image store : List ℕ) (s : State) (es : List Entry)
-    → length (tracedOf map image store s es .output) ≡ 4 * answered es
+    → length (tracedOf map image store s es .output) ≡ 4 * answeredCount es
 
 -- ---- 13 and the tail
 
@@ -98,18 +98,18 @@ OneCheck = (map image store : List ℕ) (s : State) (e : Entry)
 
 -- ---- the files
 
-pub record FileNumbers (map store : List ℕ) (kept : ℕ) (adr : List ℕ) : Type 0 where
+pub record FileNumbers (map store : List ℕ) (size : ℕ) (adr : List ℕ) : Type 0 where
   -- exactly if
-  pub exactly : GivenBy (fileNumber map store kept adr) (fileTests map store kept adr)
+  pub exactly : GivenBy (fileNumber map store size adr) (fileTests map store size adr)
   -- 7 to 11 come first, then 6
-  pub first : 0 < checkNumber map store kept → fileNumber map store kept adr ≡ checkNumber map store kept
-  pub last : checkNumber map store kept ≡ 0
-      → fileNumber map store kept adr ≡ (if eqb (length adr) 5 && addressHolds (whoOf adr .address) then 0 else 6)
+  pub first : 0 < checkNumber map store size → fileNumber map store size adr ≡ checkNumber map store size
+  pub last : checkNumber map store size ≡ 0
+      → fileNumber map store size adr ≡ (if eqb (length adr) 5 && addressHolds (whoOf adr .address) then 0 else 6)
   -- of a unit.adr of 5 bytes it is start's number
-  pub start : length adr ≡ 5 → fileNumber map store kept adr ≡ startNumber map store kept (whoOf adr)
+  pub start : length adr ≡ 5 → fileNumber map store size adr ≡ startNumber map store size (whoOf adr)
 
 abbrev pub FilesNumbered : Type 0
-FilesNumbered = (map store : List ℕ) (kept : ℕ) (adr : List ℕ) → FileNumbers map store kept adr
+FilesNumbered = (map store : List ℕ) (size : ℕ) (adr : List ℕ) → FileNumbers map store size adr
 
 -- a file longer than its limit is seen to be longer: one byte more than the limit of each is enough
 abbrev pub OneByteMore : Type 0

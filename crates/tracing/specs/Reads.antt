@@ -9,7 +9,7 @@ use lib.ListN.{length, take, drop}
 use Rattle.laws.specs.Choice.{if_then_else_}
 use Rattle.rooms.specs.declared.state.State.{State}
 use Rattle.unit.specs.Step.{startOf}
-use Rattle.entries.specs.Entry.{wholeRecords}
+use Rattle.entries.specs.Entry.{wholeEntries}
 use Rattle.tracing.specs.Trace.{Traced, broken, whoOf, fileNumber, closed, traceOf}
 use Rattle.tracing.specs.Run.{continued}
 use Rattle.tracing.specs.Flow.{standing, GoOnPromise}
@@ -29,7 +29,7 @@ restOf slice = drop (length slice - length slice % 8) slice
 abbrev pub readMore : List ℕ → List ℕ → Between → List ℕ → Between
 readMore map image b read =
     record {
-      trace = continued map image (b .trace) (wholeRecords (b .waits ++ read));
+      trace = continued map image (b .trace) (wholeEntries (b .waits ++ read));
       waits = restOf (b .waits ++ read);
     }
 

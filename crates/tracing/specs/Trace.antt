@@ -11,13 +11,13 @@ use Rattle.laws.specs.Numbers.{Test, test, firstFailing}
 use Rattle.laws.specs.Outcome.{Outcome}
 use Rattle.banks.specs.Rules.{checkTests}
 use Rattle.hearing.specs.Pairs.{heardAt}
-use Rattle.hearing.specs.declared.rooms.Who.{Who}
+use Rattle.hearing.specs.declared.heard.Who.{Who}
 use Rattle.rooms.specs.Rules.{addressHolds}
 use Rattle.rooms.specs.declared.state.State.{State}
 use Rattle.rooms.specs.declared.reply.Stepped.{Stepped}
 use Rattle.unit.specs.Step.{startOf}
 use Rattle.unit.specs.Run.{Input, power-on, hears, Run, runFrom}
-use Rattle.entries.specs.Entry.{fourBytes, wholeRecords, isBroken}
+use Rattle.entries.specs.Entry.{fourBytes, wholeEntries, isBroken}
 use Rattle.entries.specs.declared.entry.Entry.{Entry}
 
 -- the inputs before the first broken record, which ends the input
@@ -62,10 +62,10 @@ adrTests adr = test 6 (eqb (length adr) 5 && addressHolds (whoOf adr .address)) 
 
 -- start's tests: 7 to 11, then 6
 abbrev pub fileTests : List ℕ → List ℕ → ℕ → List ℕ → List Test
-fileTests map store kept adr = checkTests map store kept ++ adrTests adr
+fileTests map store size adr = checkTests map store size ++ adrTests adr
 
 unfoldable pub fileNumber : List ℕ → List ℕ → ℕ → List ℕ → ℕ
-fileNumber map store kept adr = firstFailing (fileTests map store kept adr)
+fileNumber map store size adr = firstFailing (fileTests map store size adr)
 
 -- what is written for the whole records, then 13's four bytes for an unfinished one, and last the store
 abbrev pub closed : ℕ → Traced → List ℕ
@@ -80,5 +80,5 @@ unfoldable pub traceOf : List ℕ → List ℕ → List ℕ → List ℕ → Lis
 traceOf map store image adr input =
     if eqb (fileNumber map store (length image) adr) 0
     then
-    closed (length input % 8) (tracedFrom (startOf map store image (whoOf adr)) map image (wholeRecords input))
+    closed (length input % 8) (tracedFrom (startOf map store image (whoOf adr)) map image (wholeEntries input))
     else fileNumber map store (length image) adr ∷ 0 ∷ 0 ∷ 0 ∷ []

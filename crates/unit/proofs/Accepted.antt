@@ -35,20 +35,20 @@ unless-store P n s store o base accepted = if-eq (λ (x : Outcome Stepped). P (x
 pub store-kept : CallsKeepStore
 unfolding startOf powerOnOf stepOf
 store-kept map store image =
-    let kept = length image in
+    let size = length image in
     record {
       start = λ who.
           unless-store (λ after. ChangesOnly map store after (λ r. r .kind ≡ 2)) _ zeroState store _
           (unchanged map store _)
-          (λ e. powered-changes map store image (withWho zeroState who) (start-sound map store kept who e .0));
+          (λ e. powered-changes map store image (withWho zeroState who) (start-sound map store size who e .0));
       power-on = λ s.
           unless-store (λ after. ChangesOnly map store after (λ r. r .kind ≡ 2)) _ s store _
           (unchanged map store _)
-          (λ e. powered-changes map store image s (power-sound map store kept s e .standing));
+          (λ e. powered-changes map store image s (power-sound map store size s e .standing));
       step = λ s heard.
           unless-store (λ after. ChangesOnly map store after (λ r. writable r ≡ true)) _ s store _
           (unchanged map store _)
-          (λ e. changes map store image s heard (step-sound map store kept s heard e) .writable-only);
+          (λ e. changes map store image s heard (step-sound map store size s heard e) .writable-only);
     }
 
 pub one-value-changes : OneValueChanges
@@ -71,23 +71,23 @@ calls-power-on map store image =
 
 pub accepted-again : CallsAcceptedAgain
 accepted-again map store image =
-    let kept = length image in
+    let size = length image in
     let accepted = calls-accepted map store image in
     record {
       start = λ who e.
-          let k = start-sound map store kept who e in
+          let k = start-sound map store size who e in
           rw (accepted .start who e)
-          (sound-power map _ kept _
+          (sound-power map _ size _
           (powered-sound map store image (withWho zeroState who) (k .0) (rw (named-who zeroState who) (k .1))));
       power-on = λ s e.
-          let k = power-sound map store kept s e in
+          let k = power-sound map store size s e in
           rw (accepted .power-on s e)
-          (sound-power map _ kept _ (powered-sound map store image s (k .standing) (k .rules .address)));
+          (sound-power map _ size _ (powered-sound map store image s (k .standing) (k .rules .address)));
       step = λ s heard e.
-          let k = step-sound map store kept s heard e in
-          rw (accepted .step s heard e) (sound-power map _ kept _ (frame-sound map store image s heard k));
+          let k = step-sound map store size s heard e in
+          rw (accepted .step s heard e) (sound-power map _ size _ (frame-sound map store image s heard k));
       next = λ s heard e l.
-          sound-step map store kept s heard (power-sound map store kept s e) (frame-passes map store s heard l);
+          sound-step map store size s heard (power-sound map store size s e) (frame-passes map store s heard l);
     }
 
 module _ (map image : List ℕ) where

@@ -18,10 +18,10 @@ use Rattle.banks.specs.Facts.{Stands}
 use Rattle.banks.proofs.Standing.{check-stands}
 use Rattle.banks.proofs.Places.{holder-within}
 use Rattle.memory.specs.Promises.{ChangesOnly, Takes, locksBank}
-use Rattle.memory.specs.Staged.{writeOf}
+use Rattle.memory.specs.Staged.{writeByte}
 use Rattle.memory.specs.Latched.{noneLatched}
 use Rattle.memory.specs.Filled.{chosen, fresh}
-use Rattle.memory.specs.Rooms.{zeroFrom, stagedHolds, latchHolds}
+use Rattle.memory.specs.Rules.{zeroFrom, stagedHolds, latchHolds}
 use Rattle.memory.specs.declared.staged.Staged.{Staged}
 use Rattle.memory.specs.declared.staged.Wrote.{Wrote}
 use Rattle.memory.proofs.Writes.{taken-is, write-cases}
@@ -30,8 +30,8 @@ use Rattle.memory.proofs.Fills.{chosen-writable, fill-value, fill-changes-only}
 use Rattle.memory.proofs.Locks.{fill-locks}
 use Rattle.memory.specs.declared.filled.Filling.the-variants.{PowerOn, Reset}
 use Rattle.hearing.specs.Meaning.{meaningOf, closes}
-use Rattle.hearing.specs.declared.rooms.Who.{Who}
-use Rattle.hearing.specs.declared.rooms.Heard.{Heard}
+use Rattle.hearing.specs.declared.heard.Who.{Who}
+use Rattle.hearing.specs.declared.heard.Heard.{Heard}
 use Rattle.rooms.specs.State.{poweredOn}
 use Rattle.rooms.specs.Rules.{addressHolds, waitingHolds}
 use Rattle.rooms.specs.Promises.{StatePowered}
@@ -44,7 +44,7 @@ use Rattle.rooms.specs.declared.due.Due.the-variants.{Nothing, Waits, Opens, Re
 use Rattle.rooms.specs.declared.due.Due.the-variants.{Writes, Reads}
 use Rattle.rooms.proofs.Powered.{powered-who, powered-waiting, powered-door, powered-latch}
 use Rattle.rooms.proofs.Promises.{powered-on}
-use Rattle.unit.specs.Step.{hearing, written, done, frameOf, powerOf}
+use Rattle.unit.specs.Step.{cleared, written, done, frameStep, powerStep}
 use Rattle.unit.specs.Keeping.{OneValue, StorePowered, PowersOn}
 use Rattle.unit.proofs.Keeping.{shut-holds, heard-staged, frame-keeps}
 use Rattle.unit.proofs.Sound.{Sound}
@@ -60,7 +60,7 @@ unchanged map store changed =
       others = λ r m n. refl;
       read-only = λ r m e. refl;
       unmapped = λ j u. refl;
-      checks = λ kept. refl;
+      checks = λ size. refl;
     }
 
 -- what changes only these changes only more
@@ -76,15 +76,15 @@ wider map store after these more f k =
     }
 
 -- 7 to 11 go on holding
-stands-after : (map store after : List ℕ) (kept : ℕ) (changed : Record → Type 0) → ChangesOnly map store after changed
-    → Stands map store kept → Stands map after kept
-stands-after map store after kept changed k S =
-    check-stands map after kept .0 (k .checks kept ∙ check-stands map store kept .1 S)
+stands-after : (map store after : List ℕ) (size : ℕ) (changed : Record → Type 0) → ChangesOnly map store after changed
+    → Stands map store size → Stands map after size
+stands-after map store after size changed k S =
+    check-stands map after size .0 (k .checks size ∙ check-stands map store size .1 S)
 
 module _ (map store : List ℕ) (p : placed map (length store) ≡ true) (g : Staged)
     (h : stagedHolds (recordsOf map) store g ≡ true) (bank location byte : ℕ) where
   abbrev wrote : Outcome Wrote
-  wrote = writeOf (recordsOf map) store g bank location byte
+  wrote = writeByte (recordsOf map) store g bank location byte
 
   takes-writable : (r : Record) → Takes (recordsOf map) store g bank location r → writable r ≡ true
   takes-writable r t = taken-is (recordsOf map) store g r location (t .took) .writes
@@ -117,7 +117,7 @@ module _ (map store : List ℕ) (p : placed map (length store) ≡ true) (g : St
 
 module _ (map store image : List ℕ) (s : State) (heard : Heard) (S : Sound map store (length image) s) where
   abbrev framed : Outcome Stepped
-  framed = frameOf (recordsOf map) store image s heard
+  framed = frameStep (recordsOf map) store image s heard
 
   abbrev place : placed map (length store) ≡ true
   place = S .standing .in-place
@@ -127,7 +127,7 @@ module _ (map store image : List ℕ) (s : State) (heard : Heard) (S : Sound map
 
   -- the staged bytes when the frame has been heard, before what is due is done
   abbrev staged : Staged
-  staged = hearing s closing .door .staged
+  staged = cleared s closing .door .staged
 
   staged-holds : stagedHolds (recordsOf map) store staged ≡ true
   staged-holds = heard-staged map store image s heard place (S .rules) closing
@@ -139,7 +139,7 @@ module _ (map store image : List ℕ) (s : State) (heard : Heard) (S : Sound map
   same : (due : Due) → Changes due store
   same due = record { writable-only = unchanged map store _; one = λ e. inl refl }
 
-  done-changes : (due : Due) → Changes due (done (recordsOf map) store image (hearing s closing) heard due .store)
+  done-changes : (due : Due) → Changes due (done (recordsOf map) store image (cleared s closing) heard due .store)
   unfolding done written
   done-changes Nothing = same Nothing
   done-changes Waits = same Waits
@@ -162,7 +162,7 @@ module _ (map store image : List ℕ) (s : State) (heard : Heard) (S : Sound map
   done-changes (Reads bank location) = same (Reads bank location)
 
   pub changes : Changes (dueOf (recordsOf map) s heard) (framed .store)
-  unfolding frameOf closing
+  unfolding frameStep closing
   changes = done-changes (dueOf (recordsOf map) s heard)
 
   -- 7 to 12 hold after it
@@ -175,21 +175,21 @@ module _ (map store image : List ℕ) (s : State) (heard : Heard) (S : Sound map
 
 module _ (map store image : List ℕ) (s : State) (S : Stands map store (length image)) where
   abbrev powered : Outcome Stepped
-  powered = powerOf (recordsOf map) store image s
+  powered = powerStep (recordsOf map) store image s
 
   pub powered-changes : ChangesOnly map store (powered .store) (λ r. r .kind ≡ 2)
-  unfolding powerOf chosen
+  unfolding powerStep chosen
   powered-changes =
       wider map store (powered .store) _ _ (λ r e. eqb-true (r .kind) 2 e)
       (fill-changes-only map store image (S .in-place) (S .as-long) PowerOn)
 
   -- a RAM-RW value takes its fresh bytes
   ram-fresh : (r : Record) → Member r map → r .kind ≡ 2 → valueOf r (powered .store) ≡ fresh image r
-  unfolding powerOf chosen
+  unfolding powerStep chosen
   ram-fresh r m k = fill-value map store image (S .in-place) (S .as-long) PowerOn r m ∙ rw (eq-eqb (r .kind) 2 k)
 
   powered-store : StorePowered map store image (powered .store)
-  unfolding fresh powerOf locksBank
+  unfolding fresh powerStep locksBank
   powered-store =
       record {
         locks = λ r m e. ram-fresh r m (search (and-left, and-right, eqb-true)) ∙ rw e;
@@ -201,7 +201,7 @@ module _ (map store image : List ℕ) (s : State) (S : Stands map store (length 
 
   pub powered-sound : addressHolds (s .who .address) ≡ true
       → Sound map (powered .store) (length image) (powered .answer .state)
-  unfolding powerOf quiet waitingHolds
+  unfolding powerStep quiet waitingHolds
   powered-sound e =
       record {
         standing = stands-after map store (powered .store) (length image) _ powered-changes S;
@@ -214,7 +214,7 @@ module _ (map store image : List ℕ) (s : State) (S : Stands map store (length 
       }
 
   pub powers-on : (who : Who) → s .who ≡ who → (o : Outcome Stepped) → o ≡ powered → PowersOn map store image s who o
-  unfolding powerOf quiet
+  unfolding powerStep quiet
   powers-on who w o e =
       rw e (record {
         acts = refl;

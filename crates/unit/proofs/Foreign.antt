@@ -15,8 +15,8 @@ use Rattle.records.specs.Map.{recordsOf}
 use Rattle.records.specs.declared.record.Record.{Record}
 use Rattle.hearing.specs.Meaning.{meaningOf, readingMeaning}
 use Rattle.hearing.specs.Pairs.{noneWaits, waitsFor, completes}
-use Rattle.hearing.specs.declared.rooms.Who.{Who}
-use Rattle.hearing.specs.declared.rooms.Heard.{Heard}
+use Rattle.hearing.specs.declared.heard.Who.{Who}
+use Rattle.hearing.specs.declared.heard.Heard.{Heard}
 use Rattle.hearing.specs.declared.meaning.Meaning.the-variants.{Foreign}
 use Rattle.rooms.specs.State.{withWaiting, withDoor, shutDoor}
 use Rattle.rooms.specs.Rules.{addressHolds, waitingHolds, stateHolds}
@@ -26,7 +26,7 @@ use Rattle.rooms.specs.declared.state.State.{State}
 use Rattle.rooms.specs.declared.reply.Stepped.{Stepped}
 use Rattle.rooms.specs.declared.due.Due.the-variants.{Waits}
 use Rattle.rooms.proofs.Dues.{pair-closes, pair-waits, waits-pair}
-use Rattle.unit.specs.Step.{hearing, done, frameOf, stepOf}
+use Rattle.unit.specs.Step.{cleared, done, frameStep, stepOf}
 use Rattle.unit.specs.Promises.{numberOf}
 use Rattle.unit.specs.Leaving.{ForeignPassesBy, noCommand, next, Interrupted, EventBreaksPair}
 use Rattle.unit.proofs.Numbers.{calls-accepted, calls-reply}
@@ -46,7 +46,7 @@ unfolding stateHolds
 waiting-holds rs store s h = both (waitingHolds s) _ (both (addressHolds (s .who .address)) _ h .1) .0
 
 pub foreign-passes-by : ForeignPassesBy
-unfolding frameOf dueOf dueBy done hearing withWaiting
+unfolding frameStep dueOf dueBy done cleared withWaiting
 foreign-passes-by rs store image s heard e =
     record {
       clears = rw e;
@@ -63,8 +63,8 @@ no-command-foreign who (Reading.Refused number) e = refl
 
 -- a first half shuts the door and waits; nothing else changes
 pub first-half : (rs : List Record) (store image : List ℕ) (s : State) (heard : Heard) → dueOf rs s heard ≡ Waits
-    → frameOf rs store image s heard ≡ leaves (quiet (withWaiting (withDoor s shutDoor) (waitsFor heard))) store
-unfolding frameOf dueOf done hearing withWaiting
+    → frameStep rs store image s heard ≡ leaves (quiet (withWaiting (withDoor s shutDoor) (waitsFor heard))) store
+unfolding frameStep dueOf done cleared withWaiting
 first-half rs store image s heard e =
     rw (e, pair-closes (meaningOf (s .who) (heard .frame)) (waits-pair rs s heard e))
 
@@ -80,7 +80,7 @@ again-waits rs s first again e q =
 
 -- an accepted call is the frame step
 accepted-step : (map store image : List ℕ) (s : State) (heard : Heard) → numberOf (stepOf map store image s heard) ≡ 0
-    → stepOf map store image s heard ≡ frameOf (recordsOf map) store image s heard
+    → stepOf map store image s heard ≡ frameStep (recordsOf map) store image s heard
 accepted-step map store image s heard e =
     calls-accepted map store image .step s heard (sym (calls-reply map store image .step s heard) ∙ e)
 

@@ -12,12 +12,12 @@ use Rattle.laws.proofs.Sides.{and-right}
 use Rattle.records.specs.Map.{recordsOf}
 use Rattle.records.specs.declared.record.Record.{Record}
 use Rattle.banks.specs.Rules.{placed}
-use Rattle.memory.specs.Rooms.{stagedHolds, latchHolds}
+use Rattle.memory.specs.Rules.{stagedHolds, latchHolds}
 use Rattle.memory.proofs.StagedRoom.{none-staged-holds, write-keeps-rule}
 use Rattle.memory.proofs.LatchRoom.{read-keeps-rule}
 use Rattle.hearing.specs.Meaning.{meaningOf}
-use Rattle.hearing.specs.declared.rooms.Who.{Who}
-use Rattle.hearing.specs.declared.rooms.Heard.{Heard}
+use Rattle.hearing.specs.declared.heard.Who.{Who}
+use Rattle.hearing.specs.declared.heard.Heard.{Heard}
 use Rattle.rooms.specs.State.{withWho, withRegisters, withWaiting, withDoor, withLatch, shutDoor, openDoor}
 use Rattle.rooms.specs.Rules.{addressHolds, needsPair, waitingHolds, doorHolds, stateHolds}
 use Rattle.rooms.specs.Reply.{quiet, answering}
@@ -28,7 +28,7 @@ use Rattle.rooms.specs.declared.due.Due.{Due}
 use Rattle.rooms.specs.declared.due.Due.the-variants.{Nothing, Waits, Opens, Resets, Becomes, Loads, Answers}
 use Rattle.rooms.specs.declared.due.Due.the-variants.{Writes, Reads}
 use Rattle.rooms.proofs.Dues.{Cases, by-due}
-use Rattle.unit.specs.Step.{hearing, raised, written, readBy, done, frameOf}
+use Rattle.unit.specs.Step.{cleared, raised, written, readBy, done, frameStep}
 
 -- ---- the rules of a state, one by one
 
@@ -69,25 +69,25 @@ door-staged rs store s e = and-right (s .door .enabled || eqb (s .door .staged .
 module _ (map store image : List ℕ) (s : State) (heard : Heard) (place : placed map (length store) ≡ true)
     (h : RulesHold (recordsOf map) store s) where
   abbrev acted : Bool → Due → Outcome Stepped
-  acted closing due = done (recordsOf map) store image (hearing s closing) heard due
+  acted closing due = done (recordsOf map) store image (cleared s closing) heard due
 
   -- what is done leaves a state that keeps the rules
   unfoldable Kept : Bool → Due → Type 0
   Kept closing due = RulesHold (recordsOf map) (acted closing due .store) (acted closing due .answer .state)
 
-  heard-door : (closing : Bool) → doorHolds (recordsOf map) store (hearing s closing) ≡ true
-  unfolding hearing withWaiting withDoor doorHolds
+  heard-door : (closing : Bool) → doorHolds (recordsOf map) store (cleared s closing) ≡ true
+  unfolding cleared withWaiting withDoor doorHolds
   heard-door true = none-staged-holds (recordsOf map) store
   heard-door false = h .door
 
   staged : stagedHolds (recordsOf map) store (s .door .staged) ≡ true
   staged = door-staged (recordsOf map) store s (h .door)
 
-  pub heard-staged : (closing : Bool) → stagedHolds (recordsOf map) store (hearing s closing .door .staged) ≡ true
-  heard-staged closing = door-staged (recordsOf map) store (hearing s closing) (heard-door closing)
+  pub heard-staged : (closing : Bool) → stagedHolds (recordsOf map) store (cleared s closing .door .staged) ≡ true
+  heard-staged closing = door-staged (recordsOf map) store (cleared s closing) (heard-door closing)
 
   nothing : (closing : Bool) → Kept closing Nothing
-  unfolding Kept hearing done quiet withWaiting withDoor waitingHolds
+  unfolding Kept cleared done quiet withWaiting withDoor waitingHolds
   nothing true = record { address = h .address; waiting = refl; door = heard-door true; latch = h .latch }
   nothing false = record { address = h .address; waiting = refl; door = heard-door false; latch = h .latch }
 
@@ -96,16 +96,16 @@ module _ (map store image : List ℕ) (s : State) (heard : Heard) (place : place
   answers closing byte = nothing closing
 
   loads : (registers : Registers) → Kept false (Loads registers)
-  unfolding Kept hearing done quiet withWaiting withRegisters waitingHolds doorHolds
+  unfolding Kept cleared done quiet withWaiting withRegisters waitingHolds doorHolds
   loads registers = record { address = h .address; waiting = refl; door = h .door; latch = h .latch }
 
   waits : needsPair (meaningOf (s .who) (heard .frame)) ≡ true → Kept true Waits
-  unfolding Kept hearing done quiet withWaiting withDoor waitingHolds
+  unfolding Kept cleared done quiet withWaiting withDoor waitingHolds
   waits e =
       record { address = h .address; waiting = rw e; door = shut-holds (recordsOf map) store _ refl; latch = h .latch }
 
   opens : Kept true Opens
-  unfolding Kept hearing done quiet withWaiting withDoor waitingHolds
+  unfolding Kept cleared done quiet withWaiting withDoor waitingHolds
   opens =
       record {
         address = h .address;
@@ -116,19 +116,19 @@ module _ (map store image : List ℕ) (s : State) (heard : Heard) (place : place
 
   -- the store changes, and behind the shut door nothing is staged
   resets : (dtr0 : ℕ) → Kept true (Resets dtr0)
-  unfolding Kept hearing done quiet withWaiting withDoor waitingHolds
+  unfolding Kept cleared done quiet withWaiting withDoor waitingHolds
   resets dtr0 =
       record { address = h .address; waiting = refl; door = shut-holds (recordsOf map) _ _ refl; latch = h .latch }
 
   -- nothing waits for the old address or groups
   becomes : (who : Who) → addressHolds (who .address) ≡ true → Kept true (Becomes who)
-  unfolding Kept hearing done quiet withWaiting withDoor withWho waitingHolds
+  unfolding Kept cleared done quiet withWaiting withDoor withWho waitingHolds
   becomes who e =
       record { address = e; waiting = refl; door = shut-holds (recordsOf map) store _ refl; latch = h .latch }
 
   writes : s .door .enabled ≡ true → (bank location byte : ℕ) (replying : Bool)
       → Kept false (Writes bank location byte replying)
-  unfolding Kept hearing done written answering raised withWaiting withDoor withRegisters waitingHolds doorHolds
+  unfolding Kept cleared done written answering raised withWaiting withDoor withRegisters waitingHolds doorHolds
   writes e bank location byte replying =
       record {
         address = h .address;
@@ -138,7 +138,7 @@ module _ (map store image : List ℕ) (s : State) (heard : Heard) (place : place
       }
 
   reads : (bank location : ℕ) → Kept true (Reads bank location)
-  unfolding Kept hearing done readBy answering raised withWaiting withDoor withRegisters withLatch waitingHolds
+  unfolding Kept cleared done readBy answering raised withWaiting withDoor withRegisters withLatch waitingHolds
   reads bank location =
       record {
         address = h .address;
@@ -161,7 +161,7 @@ module _ (map store image : List ℕ) (s : State) (heard : Heard) (place : place
         reads = reads;
       }
 
-  pub frame-keeps : RulesHold (recordsOf map) (frameOf (recordsOf map) store image s heard .store)
-      (frameOf (recordsOf map) store image s heard .answer .state)
-  unfolding Kept frameOf
+  pub frame-keeps : RulesHold (recordsOf map) (frameStep (recordsOf map) store image s heard .store)
+      (frameStep (recordsOf map) store image s heard .answer .state)
+  unfolding Kept frameStep
   frame-keeps = by-due (recordsOf map) s heard Kept all-kept

@@ -7,8 +7,8 @@ use mathlib.Core.List.{List}
 use borrow.Author.Tests.{eq-eqb, ne-eqb}
 use Rattle.laws.specs.Outcome.{Outcome}
 use Rattle.records.specs.declared.record.Record.{Record}
-use Rattle.memory.specs.Staged.{writeOf}
-use Rattle.hearing.specs.declared.rooms.Heard.{Heard}
+use Rattle.memory.specs.Staged.{writeByte}
+use Rattle.hearing.specs.declared.heard.Heard.{Heard}
 use Rattle.rooms.specs.State.{withWho, withRegisters, withWaiting, withDoor, withLatch}
 use Rattle.rooms.specs.Due.{withDtr}
 use Rattle.rooms.specs.Reply.{quiet, answering}
@@ -18,7 +18,7 @@ use Rattle.rooms.specs.declared.reply.Stepped.{Stepped}
 use Rattle.rooms.proofs.Dues.{Cases, by-due}
 use Rattle.rooms.specs.declared.due.Due.{Due}
 use Rattle.rooms.specs.declared.due.Due.the-variants.{Nothing, Answers}
-use Rattle.unit.specs.Step.{hearing, raised, written, readBy, done, frameOf}
+use Rattle.unit.specs.Step.{cleared, raised, written, readBy, done, frameStep}
 use Rattle.unit.specs.Leaving.{Dtr0Rises, Leaves, FramesLeave}
 
 -- the setters of the rooms
@@ -33,15 +33,15 @@ no-reply false replying e = refl
 module _ (rs : List Record) (store image : List ℕ) (s : State) (heard : Heard) where
   -- a frame that closes write-enable or not, and what is due then
   unfoldable Left : Bool → Due → Type 0
-  Left closing due = Leaves s store heard closing (done rs store image (hearing s closing) heard due) due
+  Left closing due = Leaves s store heard closing (done rs store image (cleared s closing) heard due) due
 
   nothing : (closing : Bool) → Left closing Nothing
-  unfolding Left hearing done quiet withWaiting withDoor
+  unfolding Left cleared done quiet withWaiting withDoor
   nothing true = (refl, refl, refl, refl, refl, refl, refl)
   nothing false = (refl, refl, refl, refl, refl, refl, refl)
 
   answers : (closing : Bool) (byte : ℕ) → Left closing (Answers byte)
-  unfolding Left hearing done answering withWaiting withDoor
+  unfolding Left cleared done answering withWaiting withDoor
   answers true byte = (refl, refl, refl, refl, refl, refl)
   answers false byte = (refl, refl, refl, refl, refl, refl)
 
@@ -58,7 +58,7 @@ module _ (rs : List Record) (store image : List ℕ) (s : State) (heard : Heard)
       }
 
   all-leave : Cases rs s heard Left
-  unfolding Left hearing done quiet written readBy answering raised rooms
+  unfolding Left cleared done quiet written readBy answering raised rooms
   all-leave =
       record {
         nothing = nothing;
@@ -69,12 +69,12 @@ module _ (rs : List Record) (store image : List ℕ) (s : State) (heard : Heard)
         loads = λ registers. (refl, refl, refl, refl, refl, refl);
         answers = answers;
         writes = λ e bank location byte replying.
-            let wrote = writeOf rs store (s .door .staged) bank location byte in
+            let wrote = writeByte rs store (s .door .staged) bank location byte in
             (refl, rises location _ refl, refl, refl, refl, no-reply (wrote .answer .taken) replying);
         reads = λ bank location. (refl, rises location _ refl, refl, refl, refl);
       }
 
 pub frames-leave : FramesLeave
-unfolding frameOf Left
+unfolding frameStep Left
 frames-leave rs store image s heard due e =
     rw (← e) (by-due rs s heard (Left rs store image s heard) (all-leave rs store image s heard))

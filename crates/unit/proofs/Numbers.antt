@@ -10,7 +10,7 @@ use Rattle.laws.proofs.Settled.{settles-both}
 use Rattle.laws.proofs.Tests.{if-eq}
 use Rattle.records.specs.Map.{recordsOf}
 use Rattle.records.specs.declared.record.Record.{Record}
-use Rattle.hearing.specs.declared.rooms.Heard.{Heard}
+use Rattle.hearing.specs.declared.heard.Heard.{Heard}
 use Rattle.rooms.specs.Reply.{quiet, answering, refusing}
 use Rattle.rooms.specs.State.{withWho, zeroState}
 use Rattle.rooms.specs.Due.{dueOf}
@@ -19,7 +19,7 @@ use Rattle.rooms.specs.declared.reply.Stepped.{Stepped}
 use Rattle.rooms.specs.declared.due.Due.{Due}
 use Rattle.rooms.specs.declared.due.Due.the-variants.{Nothing, Waits, Opens, Resets, Becomes, Loads, Answers}
 use Rattle.rooms.specs.declared.due.Due.the-variants.{Writes, Reads}
-use Rattle.unit.specs.Step.{written, readBy, done, frameOf, powerOf, unless, stepOf, startOf, powerOnOf}
+use Rattle.unit.specs.Step.{written, readBy, done, frameStep, powerStep, unless, stepOf, startOf, powerOnOf}
 use Rattle.unit.specs.Promises.{numberOf, Refuses, CallsSettled, CallsRefused, CallsReply, CallsAccepted}
 
 pub calls-settled : CallsSettled
@@ -45,8 +45,8 @@ done-number rs store image s heard (Writes bank location byte replying) = refl
 done-number rs store image s heard (Reads bank location) = refl
 
 frame-number : (rs : List Record) (store image : List ℕ) (s : State) (heard : Heard)
-    → numberOf (frameOf rs store image s heard) ≡ 0
-unfolding frameOf
+    → numberOf (frameStep rs store image s heard) ≡ 0
+unfolding frameStep
 frame-number rs store image s heard = done-number rs store image _ heard (dueOf rs s heard)
 
 module _ (s : State) (store : List ℕ) (o : Outcome Stepped) where
@@ -67,19 +67,19 @@ pub calls-accepted : CallsAccepted
 unfolding startOf powerOnOf stepOf
 calls-accepted map store image =
     record {
-      start = λ who e. accepting _ store (powerOf (recordsOf map) store image (withWho zeroState who)) _ e;
-      power-on = λ s e. accepting s store (powerOf (recordsOf map) store image s) _ e;
-      step = λ s heard e. accepting s store (frameOf (recordsOf map) store image s heard) _ e;
+      start = λ who e. accepting _ store (powerStep (recordsOf map) store image (withWho zeroState who)) _ e;
+      power-on = λ s e. accepting s store (powerStep (recordsOf map) store image s) _ e;
+      step = λ s heard e. accepting s store (frameStep (recordsOf map) store image s heard) _ e;
     }
 
 pub calls-reply : CallsReply
-unfolding startOf powerOnOf stepOf powerOf quiet
+unfolding startOf powerOnOf stepOf powerStep quiet
 calls-reply map store image =
     record {
-      start = λ who. unless-number _ store (powerOf (recordsOf map) store image (withWho zeroState who)) _ refl;
-      power-on = λ s. unless-number s store (powerOf (recordsOf map) store image s) _ refl;
+      start = λ who. unless-number _ store (powerStep (recordsOf map) store image (withWho zeroState who)) _ refl;
+      power-on = λ s. unless-number s store (powerStep (recordsOf map) store image s) _ refl;
       step = λ s heard.
-          unless-number s store (frameOf (recordsOf map) store image s heard) _
+          unless-number s store (frameStep (recordsOf map) store image s heard) _
           (frame-number (recordsOf map) store image s heard);
     }
 

@@ -13,7 +13,7 @@ use Rattle.records.specs.declared.record.Record.{Record}
 use Rattle.memory.proofs.Resets.{fill-resets}
 use Rattle.hearing.specs.Meaning.{meaningOf}
 use Rattle.hearing.specs.Pairs.{completes}
-use Rattle.hearing.specs.declared.rooms.Heard.{Heard}
+use Rattle.hearing.specs.declared.heard.Heard.{Heard}
 use Rattle.hearing.specs.declared.meaning.Once.{Once}
 use Rattle.hearing.specs.declared.meaning.Twice.{Twice}
 use Rattle.hearing.specs.declared.meaning.Meaning.{Meaning}
@@ -23,7 +23,7 @@ use Rattle.rooms.specs.declared.state.State.{State}
 use Rattle.rooms.specs.declared.due.Due.{Due}
 use Rattle.rooms.specs.declared.due.Due.the-variants.{Nothing, Waits, Opens, Resets, Becomes, Loads, Answers}
 use Rattle.rooms.specs.declared.due.Due.the-variants.{Writes, Reads}
-use Rattle.unit.specs.Step.{done, frameOf}
+use Rattle.unit.specs.Step.{done, frameStep}
 use Rattle.unit.specs.Keeping.{ResetPair, ResetDue, StepResets}
 use Rattle.unit.proofs.Numbers.{calls-accepted}
 use Rattle.unit.proofs.Sound.{step-sound}
@@ -105,7 +105,7 @@ reset-due rs s heard dtr0 = (
 )
 
 pub step-resets : StepResets
-unfolding frameOf done
+unfolding frameStep done
 step-resets map store image s heard e dtr0 p =
     let k = step-sound map store (length image) s heard e in
     rw (calls-accepted map store image .step s heard e, pair-due (recordsOf map) s heard dtr0 p)

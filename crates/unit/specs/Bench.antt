@@ -9,8 +9,8 @@ use Rattle.laws.specs.Outcome.{Outcome}
 pub use Rattle.records.specs.Bench.{benchMap, benchStore, benchImage}
 use Rattle.composing.specs.Bench.{Case, CaseHolds, sheet as framesSheet}
 use Rattle.hearing.specs.Pairs.{heardAt, passed}
-use Rattle.hearing.specs.declared.rooms.Heard.{Heard}
-use Rattle.hearing.specs.declared.rooms.Who.{Who}
+use Rattle.hearing.specs.declared.heard.Heard.{Heard}
+use Rattle.hearing.specs.declared.heard.Who.{Who}
 use Rattle.rooms.specs.declared.reply.Stepped.{Stepped}
 use Rattle.unit.specs.Step.{startOf}
 use Rattle.unit.specs.Run.{Input, hears, Run, runOf}
@@ -38,8 +38,8 @@ abbrev pub lastHeard : Heard
 lastHeard = heardAt 800 0xC1202C
 
 -- the same as inputs of a run
-abbrev pub enabledBy : ℕ → ℕ → List Input
-enabledBy first second = map hears (benchHeard first second)
+abbrev pub benchFrames : ℕ → ℕ → List Input
+benchFrames first second = map hears (benchHeard first second)
 
 abbrev pub lastFrame : List Input
 lastFrame = hears lastHeard ∷ []
@@ -63,43 +63,43 @@ pub data Line : Type 0 where
   pairs : (first second difference : ℕ) → Line
 
 -- the start is accepted, and the run writes the output and leaves the store
-pub record Runs (inputs : List Input) (output store : List ℕ) : Type 0 where
+pub record BenchRuns (inputs : List Input) (output store : List ℕ) : Type 0 where
   pub starts : benchStart .answer .reply .number ≡ 0
   pub writes : benchRun inputs .output ≡ output
   pub leaves : benchRun inputs .store ≡ store
 
-abbrev pub Holds : Line → Type 0
-Holds (says case) = CaseHolds case
-Holds (runs inputs output store) = Runs inputs output store
-Holds (leads inputs output store dtr0 dtr1) =
-    Runs inputs output store
+abbrev pub LineHolds : Line → Type 0
+LineHolds (says case) = CaseHolds case
+LineHolds (runs inputs output store) = BenchRuns inputs output store
+LineHolds (leads inputs output store dtr0 dtr1) =
+    BenchRuns inputs output store
     × (benchRun inputs .state .registers .dtr0 ≡ dtr0) × (benchRun inputs .state .registers .dtr1 ≡ dtr1)
-Holds (pairs first second difference) =
+LineHolds (pairs first second difference) =
     (passed first second ≡ difference)
     × (benchRun (at first 0x0BFE15 ∷ at second 0x0BFE15 ∷ []) .state .door .enabled ≡ true)
 
-abbrev pub Hold : List Line → Type 0
-Hold [] = Unit {0}
-Hold (line ∷ lines) = Holds line × Hold lines
+abbrev pub LinesHold : List Line → Type 0
+LinesHold [] = Unit {0}
+LinesHold (line ∷ lines) = LineHolds line × LinesHold lines
 
 -- P11: 0BFE15 at 0 and at 100, C13102, C13002, C12055, C12000, C12000, C12001, C1202C
 abbrev pub p11 : Line
 p11 =
-    runs (enabledBy 0 100 ++ lastFrame)
+    runs (benchFrames 0 100 ++ lastFrame)
     (none ++ none ++ none ++ none ++ answer 0x55 ++ answer 0x00 ++ answer 0x00 ++ answer 0x01 ++ answer 0x2C)
     (0x06 ∷ 0x55 ∷ 0x00 ∷ 0x00 ∷ 0x01 ∷ 0x2C ∷ [])
 
 -- P12: the last frame missing
 abbrev pub p12 : Line
 p12 =
-    runs (enabledBy 0 100)
+    runs (benchFrames 0 100)
     (none ++ none ++ none ++ none ++ answer 0x55 ++ answer 0x00 ++ answer 0x00 ++ answer 0x01)
     (0x06 ∷ 0x55 ∷ 0x00 ∷ 0x00 ∷ 0x00 ∷ 0x64 ∷ [])
 
 -- second ENABLE at 101: no answers, store unchanged, DTR0 2, DTR1 2
 abbrev pub late : Line
 late =
-    leads (enabledBy 0 101 ++ lastFrame)
+    leads (benchFrames 0 101 ++ lastFrame)
     (none ++ none ++ none ++ none ++ none ++ none ++ none ++ none ++ none)
     benchStore 2 2
 
@@ -112,4 +112,4 @@ abbrev pub sheet : List Line
 sheet = map says framesSheet ++ p11 ∷ p12 ∷ late ∷ overrun ∷ []
 
 abbrev pub SheetHolds : Type 0
-SheetHolds = Hold sheet
+SheetHolds = LinesHold sheet

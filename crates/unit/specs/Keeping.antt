@@ -20,8 +20,8 @@ use Rattle.memory.specs.Promises.{ChangesOnly}
 use Rattle.memory.specs.Reset.{StoreReset}
 use Rattle.hearing.specs.Meaning.{meaningOf}
 use Rattle.hearing.specs.Pairs.{completes}
-use Rattle.hearing.specs.declared.rooms.Who.{Who}
-use Rattle.hearing.specs.declared.rooms.Heard.{Heard}
+use Rattle.hearing.specs.declared.heard.Who.{Who}
+use Rattle.hearing.specs.declared.heard.Heard.{Heard}
 use Rattle.hearing.specs.declared.meaning.Twice.the-variants.{ResetMemoryBank}
 use Rattle.hearing.specs.declared.meaning.Meaning.the-variants.{NeedsPair}
 use Rattle.rooms.specs.State.{withWho, zeroState}
@@ -31,7 +31,7 @@ use Rattle.rooms.specs.declared.state.State.{State}
 use Rattle.rooms.specs.declared.reply.Stepped.{Stepped}
 use Rattle.rooms.specs.declared.due.Due.the-variants.{Resets}
 use Rattle.numbers.specs.Numbers.{startNumber, powerNumber, stepNumber}
-use Rattle.unit.specs.Step.{startOf, powerOnOf, powerOf, stepOf}
+use Rattle.unit.specs.Step.{startOf, powerOnOf, powerStep, stepOf}
 use Rattle.unit.specs.Run.{Input, power-on, hears, inputOf}
 use Rattle.unit.specs.Promises.{numberOf}
 
@@ -77,7 +77,7 @@ pub record StorePowered (map store image after : List ℕ) : Type 0 where
 
 -- an outcome that is a power-on of a state, with this address and these groups
 pub record PowersOn (map store image : List ℕ) (s : State) (who : Who) (o : Outcome Stepped) : Type 0 where
-  pub acts : o ≡ powerOf (recordsOf map) store image s
+  pub acts : o ≡ powerStep (recordsOf map) store image s
   pub unanswered : o .answer .reply .answered ≡ false
   pub state-is : StatePowered who (o .answer .state)
   pub store-is : StorePowered map store image (o .store)

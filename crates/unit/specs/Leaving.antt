@@ -14,7 +14,7 @@ use Rattle.records.specs.Map.{recordsOf}
 use Rattle.records.specs.declared.record.Record.{Record}
 use Rattle.hearing.specs.Meaning.{meaningOf, closes}
 use Rattle.hearing.specs.Pairs.{noneWaits, waitsFor}
-use Rattle.hearing.specs.declared.rooms.Heard.{Heard}
+use Rattle.hearing.specs.declared.heard.Heard.{Heard}
 use Rattle.hearing.specs.declared.meaning.Meaning.the-variants.{Foreign}
 use Rattle.rooms.specs.State.{withWaiting, withDoor, shutDoor, openDoor}
 use Rattle.rooms.specs.Rules.{stateHolds}
@@ -25,14 +25,14 @@ use Rattle.rooms.specs.declared.reply.Stepped.{Stepped}
 use Rattle.rooms.specs.declared.due.Due.{Due}
 use Rattle.rooms.specs.declared.due.Due.the-variants.{Nothing, Waits, Opens, Resets, Becomes, Loads, Answers}
 use Rattle.rooms.specs.declared.due.Due.the-variants.{Writes, Reads}
-use Rattle.unit.specs.Step.{frameOf, stepOf}
+use Rattle.unit.specs.Step.{frameStep, stepOf}
 use Rattle.unit.specs.Promises.{numberOf}
 
 -- a foreign frame changes nothing but the waiting frame, and nothing at all where none waits
 pub record PassesBy (rs : List Record) (store image : List ℕ) (s : State) (heard : Heard) : Type 0 where
-  pub clears : frameOf rs store image s heard ≡ leaves (quiet (withWaiting s noneWaits)) store
+  pub clears : frameStep rs store image s heard ≡ leaves (quiet (withWaiting s noneWaits)) store
   pub changes-nothing : stateHolds rs store s ≡ true → s .waiting .held ≡ false
-      → frameOf rs store image s heard ≡ leaves (quiet s) store
+      → frameStep rs store image s heard ≡ leaves (quiet s) store
 
 abbrev pub ForeignPassesBy : Type 0
 ForeignPassesBy = (rs : List Record) (store image : List ℕ) (s : State) (heard : Heard)
@@ -146,4 +146,4 @@ Leaves s store heard closing o (Reads bank location) =
 abbrev pub FramesLeave : Type 0
 FramesLeave = (rs : List Record) (store image : List ℕ) (s : State) (heard : Heard) (due : Due)
     → dueOf rs s heard ≡ due
-    → Leaves s store heard (closes (meaningOf (s .who) (heard .frame))) (frameOf rs store image s heard) due
+    → Leaves s store heard (closes (meaningOf (s .who) (heard .frame))) (frameStep rs store image s heard) due

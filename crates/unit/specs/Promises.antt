@@ -9,13 +9,13 @@ use mathlib.Core.List.{List}
 use lib.ListN.{length}
 use Rattle.laws.specs.Outcome.{Outcome, Gives}
 use Rattle.records.specs.Map.{recordsOf}
-use Rattle.hearing.specs.declared.rooms.Who.{Who}
-use Rattle.hearing.specs.declared.rooms.Heard.{Heard}
+use Rattle.hearing.specs.declared.heard.Who.{Who}
+use Rattle.hearing.specs.declared.heard.Heard.{Heard}
 use Rattle.rooms.specs.State.{withWho, zeroState}
 use Rattle.rooms.specs.declared.state.State.{State}
 use Rattle.rooms.specs.declared.reply.Stepped.{Stepped}
 use Rattle.numbers.specs.Numbers.{startNumber, powerNumber, stepNumber}
-use Rattle.unit.specs.Step.{startOf, powerOnOf, powerOf, stepOf, frameOf}
+use Rattle.unit.specs.Step.{startOf, powerOnOf, powerStep, stepOf, frameStep}
 
 -- what each public call promises of its answer r and of the store that is left
 abbrev pub StartPromise : List ℕ → List ℕ → List ℕ → Who → Stepped → List ℕ → Type 0
@@ -68,11 +68,11 @@ pub record Refused (map store image : List ℕ) (n : ℕ) : Type 0 where
 -- number 0: the call does what its definition for an accepted map, store and state says
 pub record Accepted (map store image : List ℕ) : Type 0 where
   pub start : (who : Who) → startNumber map store (length image) who ≡ 0
-      → startOf map store image who ≡ powerOf (recordsOf map) store image (withWho zeroState who)
+      → startOf map store image who ≡ powerStep (recordsOf map) store image (withWho zeroState who)
   pub power-on : (s : State) → powerNumber map store (length image) s ≡ 0
-      → powerOnOf map store image s ≡ powerOf (recordsOf map) store image s
+      → powerOnOf map store image s ≡ powerStep (recordsOf map) store image s
   pub step : (s : State) (heard : Heard) → stepNumber map store (length image) s heard ≡ 0
-      → stepOf map store image s heard ≡ frameOf (recordsOf map) store image s heard
+      → stepOf map store image s heard ≡ frameStep (recordsOf map) store image s heard
 
 abbrev pub CallsSettled : Type 0
 CallsSettled = (map store image : List ℕ) → Settled map store image

@@ -5,8 +5,8 @@ use mathlib.Core.Bool.{Bool, true, false}
 use mathlib.Core.List.{List, [], _∷_, _++_}
 use Rattle.laws.specs.Choice.{if_then_else_}
 use Rattle.laws.specs.Outcome.{Outcome}
-use Rattle.hearing.specs.declared.rooms.Who.{Who}
-use Rattle.hearing.specs.declared.rooms.Heard.{Heard}
+use Rattle.hearing.specs.declared.heard.Who.{Who}
+use Rattle.hearing.specs.declared.heard.Heard.{Heard}
 use Rattle.rooms.specs.declared.state.State.{State}
 use Rattle.rooms.specs.declared.reply.Reply.{Reply}
 use Rattle.rooms.specs.declared.reply.Stepped.{Stepped}
@@ -30,15 +30,15 @@ pub record Run : Type 0 where
   pub state : State
   pub store : List ℕ
 
-abbrev pub after : List ℕ → Run → Run
-after output run = record { output = output ++ run .output; state = run .state; store = run .store }
+abbrev pub inFront : List ℕ → Run → Run
+inFront output run = record { output = output ++ run .output; state = run .state; store = run .store }
 
 -- the first input first; a refused one leaves state and store, and the next goes on from there
 abbrev pub runFrom : List ℕ → List ℕ → List ℕ → State → List Input → Run
 runFrom map image store s [] = record { output = []; state = s; store = store }
 runFrom map image store s (x ∷ xs) =
     let o : Outcome Stepped = inputOf map image store s x in
-    after (outputOf (o .answer .reply)) (runFrom map image (o .store) (o .answer .state) xs)
+    inFront (outputOf (o .answer .reply)) (runFrom map image (o .store) (o .answer .state) xs)
 
 -- from a start
 unfoldable pub runOf : List ℕ → List ℕ → List ℕ → Who → List Input → Run

@@ -7,7 +7,7 @@ use mathlib.Core.Path.{_≡_}
 use mathlib.Core.List.{List, [], _∷_, _++_, map}
 use Rattle.memory.specs.Cases.{twoBanks, twoStore, twoImage}
 use Rattle.unit.specs.Run.{Input, power-on, Run, runOf}
-use Rattle.unit.specs.Bench.{benchStore, benchWho, at, none, answer, Line, runs, Hold}
+use Rattle.unit.specs.Bench.{benchStore, benchWho, at, none, answer, Line, runs, LinesHold}
 
 -- frames, all heard at one clock
 abbrev sent : List ℕ → List Input
@@ -205,7 +205,7 @@ worked =
     ∷ resetting ∷ resettingAll ∷ resettingLocked ∷ powering ∷ addressing ∷ grouping ∷ loading ∷ []
 
 abbrev pub WorkedHold : Type 0
-WorkedHold = Hold worked
+WorkedHold = LinesHold worked
 
 -- ---- a unit with banks 1 and 2: memory's worked map, store and image
 

@@ -5,9 +5,9 @@ ghost use lib.ListN.{length};
 ghost use Rattle.laws.specs.Outcome.{Gives};
 ghost use Rattle.records.specs.Map.{recordsOf};
 ghost use Rattle.banks.specs.Rules.{placed};
-ghost use Rattle.memory.specs.Staged.{writeOf};
-ghost use Rattle.memory.specs.Latched.{readOf};
-ghost use Rattle.unit.specs.Step.{hearing, raised, written, readBy, done};
+ghost use Rattle.memory.specs.Staged.{writeByte};
+ghost use Rattle.memory.specs.Latched.{readByte};
+ghost use Rattle.unit.specs.Step.{cleared, raised, written, readBy, done};
 use hearing::Heard;
 use memory::Filling;
 use rooms::Door;
@@ -27,13 +27,13 @@ use rooms::with_who;
 
 // Any frame clears the waiting one; what closes write-enable drops staging.
 pub fn hear(state: State, closing: bool) -> State
-    ensures { λ r. ⌜ r ≡ hearing state closing ⌝ }
+    ensures { λ r. ⌜ r ≡ cleared state closing ⌝ }
 {
-    let cleared = with_waiting(state, hearing::none_waits());
+    let none_waiting = with_waiting(state, hearing::none_waits());
     if closing {
-        return with_door(cleared, shut_door());
+        return with_door(none_waiting, shut_door());
     }
-    cleared
+    none_waiting
 }
 
 // DTR0 rises by one unless 0xFF.
@@ -59,7 +59,7 @@ fn write_at(
 ) -> Stepped
     requires { ⌜ placed (now map) (length (now store)) ≡ true ⌝ }
     ensures { λ r. ⌜ Gives r (now (store .exit)) (written state location byte replying
-        (writeOf (recordsOf (now (map .entry))) (now (store .entry)) (state .door .staged) bank location byte)) ⌝ }
+        (writeByte (recordsOf (now (map .entry))) (now (store .entry)) (state .door .staged) bank location byte)) ⌝ }
 {
     let door = state.door;
     let staged = door.staged;
@@ -80,7 +80,7 @@ fn write_at(
 fn read_at(map: &[u8], store: &[u8], state: State, bank: u8, location: u8) -> Stepped
     requires { ⌜ placed (now map) (length (now store)) ≡ true ⌝ }
     ensures { λ r. ⌜ r ≡ readBy state location
-        (readOf (recordsOf (now (map .entry))) (now (store .entry)) (state .latch) bank location) ⌝ }
+        (readByte (recordsOf (now (map .entry))) (now (store .entry)) (state .latch) bank location) ⌝ }
 {
     let latch = state.latch;
     let shown = memory::read_byte(map, store, latch, bank, location);

@@ -5,7 +5,7 @@ ghost use lib.ListN.{length};
 ghost use Rattle.laws.specs.Outcome.{Gives};
 ghost use Rattle.records.specs.Map.{recordsOf};
 ghost use Rattle.banks.specs.Rules.{placed};
-ghost use Rattle.unit.specs.Step.{frameOf, powerOf};
+ghost use Rattle.unit.specs.Step.{frameStep, powerStep};
 ghost use Rattle.unit.specs.Promises.{StartPromise, PowerOnPromise, StepPromise};
 use crate::acts::act;
 use crate::acts::hear;
@@ -30,7 +30,7 @@ use rooms::zero_state;
 pub fn frame_step(map: &[u8], store: &mut [u8], image: &[u8], state: State, heard: Heard) -> Stepped
     requires { ⌜ (placed (now map) (length (now store)) ≡ true) × (length (now image) ≡ length (now store)) ⌝ }
     ensures { λ r. ⌜ Gives r (now (store .exit))
-        (frameOf (recordsOf (now (map .entry))) (now (store .entry)) (now (image .entry)) state heard) ⌝ }
+        (frameStep (recordsOf (now (map .entry))) (now (store .entry)) (now (image .entry)) state heard) ⌝ }
 {
     let Reading::Got(message) = frames::read(heard.frame) else {
         return quiet(hear(state, false));
@@ -38,15 +38,15 @@ pub fn frame_step(map: &[u8], store: &mut [u8], image: &[u8], state: State, hear
     let who = state.who;
     let meaning = hearing::message_meaning(who, message);
     let due = due_by(map, state, heard, meaning);
-    let open = hear(state, hearing::closes(meaning));
-    act(map, store, image, open, heard, due)
+    let cleared = hear(state, hearing::closes(meaning));
+    act(map, store, image, cleared, heard, due)
 }
 
 // Internal: a power-on on a map and store that keep the rules.
 pub fn power_step(map: &[u8], store: &mut [u8], image: &[u8], state: State) -> Stepped
     requires { ⌜ (placed (now map) (length (now store)) ≡ true) × (length (now image) ≡ length (now store)) ⌝ }
     ensures { λ r. ⌜ Gives r (now (store .exit))
-        (powerOf (recordsOf (now (map .entry))) (now (store .entry)) (now (image .entry)) state) ⌝ }
+        (powerStep (recordsOf (now (map .entry))) (now (store .entry)) (now (image .entry)) state) ⌝ }
 {
     memory::fill_store(map, store, image, Filling::PowerOn);
     quiet(powered_on(state))

@@ -2,7 +2,7 @@
 -- Assumes nothing.
 use mathlib.Core.Path.{sym, _∙_}
 use Rattle.banks.proofs.Places.{placed-ordered}
-use Rattle.memory.specs.Latched.{readOf, readAt}
+use Rattle.memory.specs.Latched.{readByte, readAt}
 use Rattle.memory.proofs.Reaching.{reaches}
 use borrow.Author.Needs.{needs}
 use Rattle.memory.proofs.latched.read_byte.Statement.{statement}
@@ -15,13 +15,13 @@ show-value-requires c κs =
     (sym (found .before .before .lookup .ensures) ∙ found .r .given .1)
 
 returns : tie.Need-returns
-unfolding readOf readAt
+unfolding readByte readAt
 returns c =
     let found = c .before .before in
     rw (sym (found .before .before .lookup .ensures) ∙ found .r .given .1) (c .show-value .ensures)
 
 pub read-byte-spec : {M : Type 1} → statement M
-unfolding readOf readAt
+unfolding readByte readAt
 read-byte-spec =
     tie.close
     (tie.spec

@@ -2,7 +2,7 @@
 -- Assumes nothing.
 use mathlib.Core.Path.{refl, sym, _∙_}
 use Rattle.banks.proofs.Places.{placed-ordered}
-use Rattle.memory.specs.Staged.{writeOf, writeAt}
+use Rattle.memory.specs.Staged.{writeByte, writeAt}
 use Rattle.memory.proofs.Reaching.{reaches}
 use borrow.Author.Needs.{needs}
 use Rattle.memory.proofs.staged.write_byte.Statement.{statement}
@@ -15,13 +15,13 @@ write-found-requires c κs =
     (start .pre, reaches _ _ _ _ (start .pre) _ (sym (found .before .before .lookup .ensures) ∙ found .r .given .1))
 
 returns : tie.Need-returns
-unfolding writeOf writeAt
+unfolding writeByte writeAt
 returns c =
     let found = c .before .before .before .before .before in
     rw (sym (found .before .before .lookup .ensures) ∙ found .r .given .1) (c .before .before .write-found .ensures)
 
 returns-2 : tie.Need-returns-2
-unfolding writeOf writeAt
+unfolding writeByte writeAt
 returns-2 c =
     rw (sym (c .before .before .before .before .lookup .ensures) ∙ c .before .before .enum-told .given .1)
     (record { answer = rw (← c .before .none-staged .ensures) (c .wrote-as .ensures); store = refl })

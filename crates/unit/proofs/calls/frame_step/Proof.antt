@@ -6,18 +6,18 @@ use Rattle.banks.proofs.Places.{placed-ordered}
 use Rattle.hearing.specs.Meaning.{meaningOf}
 use Rattle.rooms.specs.Reply.{quiet}
 use Rattle.rooms.specs.Due.{dueBy, dueOf}
-use Rattle.unit.specs.Step.{frameOf, done}
+use Rattle.unit.specs.Step.{frameStep, done}
 use Rattle.unit.proofs.calls.frame_step.Statement.{statement}
 use Rattle.unit.proofs.calls.frame_step.Tie as tie
 
 returns : tie.Need-returns
-unfolding frameOf dueOf meaningOf dueBy done
+unfolding frameStep dueOf meaningOf dueBy done
 returns c =
     rw (← c .before .before .before .before .read .ensures, c .before .before .enum-told .given .1)
     (record { answer = c .quiet .ensures ∙ ap quiet (c .before .hear .ensures); store = refl })
 
 returns-2 : tie.Need-returns-2
-unfolding frameOf dueOf meaningOf
+unfolding frameStep dueOf meaningOf
 returns-2 c =
     let heard = c .before .before .before .before in
     let meant = heard .before .before .before in

@@ -1,10 +1,10 @@
--- `memory::rooms::latch_holds` meets its contract.
+-- `memory::rules::latch_holds` meets its contract.
 -- Assumes nothing.
 use Rattle.laws.proofs.Choosing.{if-yes, if-no}
-use Rattle.memory.specs.Rooms.{latchHolds}
+use Rattle.memory.specs.Rules.{latchHolds}
 use borrow.Author.Needs.{needs}
-use Rattle.memory.proofs.rooms.latch_holds.Statement.{statement}
-use Rattle.memory.proofs.rooms.latch_holds.Tie as tie
+use Rattle.memory.proofs.rules.latch_holds.Statement.{statement}
+use Rattle.memory.proofs.rules.latch_holds.Tie as tie
 
 pub latch-holds-spec : {M : Type 1} → statement M
 unfolding latchHolds

@@ -5,7 +5,7 @@ ghost use lib.ListN.{length};
 ghost use Rattle.records.specs.Map.{recordsOf};
 ghost use Rattle.records.specs.Order.{ordered};
 ghost use Rattle.banks.specs.Rules.{placed};
-ghost use Rattle.memory.specs.Rooms.{zeroFrom, stagedIn, stagedHolds, latchedIn, latchHolds};
+ghost use Rattle.memory.specs.Rules.{zeroFrom, stagedIn, stagedHolds, latchedIn, latchHolds};
 use crate::latched::Latch;
 use crate::staged::Staged;
 use crate::staged::is_unlocked;

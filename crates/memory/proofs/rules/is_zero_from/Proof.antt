@@ -1,14 +1,14 @@
--- `memory::rooms::is_zero_from` meets its contract.
+-- `memory::rules::is_zero_from` meets its contract.
 -- Assumes nothing.
 use Prim.Native.Nat.{_-_}
 use mathlib.Core.Path.{_≡_, refl, sym, _∙_}
 use native.Mathlib.Omega.{arith}
 use borrow.Author.Needs.{needs}
 use lib.ListN.{length}
-use Rattle.memory.specs.Rooms.{zeroFrom}
+use Rattle.memory.specs.Rules.{zeroFrom}
 use Rattle.memory.proofs.Zeros.{zero-fails, zero-goes-on, zero-all}
-use Rattle.memory.proofs.rooms.is_zero_from.Statement.{statement}
-use Rattle.memory.proofs.rooms.is_zero_from.Tie as tie
+use Rattle.memory.proofs.rules.is_zero_from.Statement.{statement}
+use Rattle.memory.proofs.rules.is_zero_from.Tie as tie
 
 abbrev Inv-loop : tie.InvT-loop
 Inv-loop used bytes i₀ i = (length bytes ≡ 8) × (zeroFrom used bytes ≡ zeroFrom i bytes)

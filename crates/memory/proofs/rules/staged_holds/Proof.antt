@@ -1,11 +1,11 @@
--- `memory::rooms::staged_holds` meets its contract.
+-- `memory::rules::staged_holds` meets its contract.
 -- Assumes nothing.
 use borrow.Author.Tests.{eq-eqb, ne-eqb}
 use Rattle.banks.proofs.Places.{placed-ordered}
-use Rattle.memory.specs.Rooms.{stagedHolds}
+use Rattle.memory.specs.Rules.{stagedHolds}
 use borrow.Author.Needs.{needs}
-use Rattle.memory.proofs.rooms.staged_holds.Statement.{statement}
-use Rattle.memory.proofs.rooms.staged_holds.Tie as tie
+use Rattle.memory.proofs.rules.staged_holds.Statement.{statement}
+use Rattle.memory.proofs.rules.staged_holds.Tie as tie
 
 pub staged-holds-spec : {M : Type 1} → statement M
 unfolding stagedHolds

@@ -1,9 +1,9 @@
--- `memory::rooms::staged_in` meets its contract.
+-- `memory::rules::staged_in` meets its contract.
 -- Assumes nothing.
-use Rattle.memory.specs.Rooms.{stagedIn}
+use Rattle.memory.specs.Rules.{stagedIn}
 use borrow.Author.Needs.{needs}
-use Rattle.memory.proofs.rooms.staged_in.Statement.{statement}
-use Rattle.memory.proofs.rooms.staged_in.Tie as tie
+use Rattle.memory.proofs.rules.staged_in.Statement.{statement}
+use Rattle.memory.proofs.rules.staged_in.Tie as tie
 
 pub staged-in-spec : {M : Type 1} → statement M
 unfolding stagedIn

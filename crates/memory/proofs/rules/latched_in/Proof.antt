@@ -1,9 +1,9 @@
--- `memory::rooms::latched_in` meets its contract.
+-- `memory::rules::latched_in` meets its contract.
 -- Assumes nothing.
-use Rattle.memory.specs.Rooms.{latchedIn}
+use Rattle.memory.specs.Rules.{latchedIn}
 use borrow.Author.Needs.{needs}
-use Rattle.memory.proofs.rooms.latched_in.Statement.{statement}
-use Rattle.memory.proofs.rooms.latched_in.Tie as tie
+use Rattle.memory.proofs.rules.latched_in.Statement.{statement}
+use Rattle.memory.proofs.rules.latched_in.Tie as tie
 
 pub latched-in-spec : {M : Type 1} → statement M
 unfolding latchedIn
