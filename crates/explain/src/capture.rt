@@ -8,9 +8,11 @@ use hearing::Who;
 use libc::STDIN_FILENO;
 use rooms::State;
 use telling::Step;
+use telling::begin;
 use telling::say_step;
 use telling::say_who;
 use telling::seen_of;
+use telling::take_step;
 use text::Line;
 
 // Between two records: the state, whether all that was due is written, whether to read on, and whether the capture ended
@@ -22,15 +24,6 @@ struct Flow {
     whole: bool,
 }
 
-// The width of the value whose bytes are staged.
-fn staged_width(map: &[u8], store: &[u8], step: Step) -> u8 {
-    let state = step.state;
-    let door = state.door;
-    let staged = door.staged;
-    let value = looks::look_at(map, store, staged.bank, staged.first);
-    value.width
-}
-
 // What the record did, and the values that it changed. Answers whether all of it is written.
 fn show_step(
     map: &[u8],
@@ -40,24 +33,12 @@ fn show_step(
     was: State,
     step: Step,
 ) -> bool {
-    let width = staged_width(map, store, step);
     let same = check::same(seen, &seen_of(store));
-    let written = print(say_step(Line::new(), record, was, step, width, same));
+    let written = print(say_step(Line::new(), record, was, step, same));
     if same {
         return written;
     }
     written && show_values(map, seen, store, false, 21)
-}
-
-fn take_step(map: &[u8], store: &mut [u8], image: &[u8], was: State, record: &[u8; 8]) -> Step {
-    let mut reply = [0u8; 4];
-    let ran = tracing::run(map, store, image, was, record, &mut reply);
-    let is = ran.state;
-    Step {
-        state: is,
-        answered: reply[1] == 1,
-        answer: reply[2],
-    }
 }
 
 fn flow_after(step: Step, written: bool) -> Flow {
@@ -131,12 +112,6 @@ fn show_records(map: &[u8], store: &mut [u8], image: &[u8], state: State, begun:
 fn show_start(map: &[u8], seen: &[u8], store: &[u8], who: Who) -> bool {
     let written = print(say_who(Line::new().column(21).add(b"start"), who));
     written && show_values(map, seen, store, false, 21)
-}
-
-fn begin(map: &[u8], store: &mut [u8], image: &[u8], who: Who) -> State {
-    let started = unit::start(map, store, image, who);
-    let state = started.state;
-    state
 }
 
 // Answers whether all is written.

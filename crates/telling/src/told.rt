@@ -13,11 +13,12 @@ use text::Line;
 use text::say_frame;
 use text::say_value;
 
-// What a record came to: the state after it, and the answer, if there is one.
+// What a record came to: the state after it, the answer, if there is one, and the width of the value whose bytes are staged.
 pub struct Step {
     pub state: State,
     pub answered: bool,
     pub answer: u8,
+    pub width: u8,
 }
 
 // The clock of a record, with which its line begins.
@@ -79,15 +80,14 @@ fn frame_of(record: &[u8; 8]) -> u32 {
     four_bytes(record[4], record[5], record[6], record[7])
 }
 
-// A record, what was answered, and what it did to a unit in that state: by its step, the width of the value whose bytes
-// are staged then, and whether the store is the same.
-pub fn say_step(line: Line, record: &[u8; 8], was: State, step: Step, width: u8, same: bool) -> Line
+// A record, what was answered, and what it did to a unit in that state: by its step, and whether the store is the same.
+pub fn say_step(line: Line, record: &[u8; 8], was: State, step: Step, same: bool) -> Line
     ensures { λ r. ⌜ line .length ≤ r .length ⌝ }
 {
     let is = step.state;
     let said = say_record(line, record, was.who);
     let answered = say_answer(said, step.answered, step.answer);
-    say_changes(answered, was, is, frame_of(record), width, same)
+    say_changes(answered, was, is, frame_of(record), step.width, same)
 }
 
 // A value that is the same now.
