@@ -1,6 +1,5 @@
 // The capture, record by record, by a unit that takes the same steps.
 use crate::output::print;
-use crate::values::read_file;
 use crate::values::show_values;
 use entries::entry_at;
 use entries::is_broken;
@@ -80,20 +79,25 @@ fn show_next(map: &[u8], store: &mut [u8], image: &[u8], state: State) -> Flow {
     flow_at_end(state, n == 0)
 }
 
-// Behind a capture that is whole, the values that the file has, and those that are there in the end. Answers whether all
-// is written.
-fn show_ends(map: &[u8], store: &[u8], written: bool, whole: bool) -> bool {
+// Behind a capture that is whole, the values that were there first, and those that are there in the end. Answers whether
+// all is written.
+fn show_ends(map: &[u8], first: &[u8], store: &[u8], written: bool, whole: bool) -> bool {
     if written & whole {
-        let mut first = [0u8; 4096];
-        read_file(b"unit.sto", &mut first);
-        return print(Line::new()) && show_values(map, &first, store, true, 0);
+        return print(Line::new()) && show_values(map, first, store, true, 0);
     }
     written
 }
 
 // Answers whether all is written. A proved loop has to end, and nothing says that the input does: it counts its turns
 // down from a number that no run uses up.
-fn show_records(map: &[u8], store: &mut [u8], image: &[u8], state: State, begun: bool) -> bool {
+fn show_records(
+    map: &[u8],
+    store: &mut [u8],
+    image: &[u8],
+    first: &[u8],
+    state: State,
+    begun: bool,
+) -> bool {
     let mut flow = Flow {
         state: state,
         written: begun,
@@ -105,7 +109,7 @@ fn show_records(map: &[u8], store: &mut [u8], image: &[u8], state: State, begun:
         flow = show_next(map, store, image, flow.state);
         turns -= 1;
     }
-    show_ends(map, store, flow.written, flow.whole)
+    show_ends(map, first, store, flow.written, flow.whole)
 }
 
 // Who the unit is, and what the start changed. Answers whether all of it is written.
@@ -119,7 +123,7 @@ fn show_unit(map: &[u8], store: &mut [u8], image: &[u8], who: Who) -> bool {
     let seen = seen_of(store);
     let state = begin(map, store, image, who);
     let begun = show_start(map, &seen, store, who);
-    show_records(map, store, image, state, begun)
+    show_records(map, store, image, &seen, state, begun)
 }
 
 // Nothing of a unit whose start is refused. Answers whether all is written.

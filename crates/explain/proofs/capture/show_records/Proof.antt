@@ -7,10 +7,10 @@ use Rattle.explain.proofs.capture.show_records.Statement.{statement}
 use Rattle.explain.proofs.capture.show_records.Tie as tie
 
 abbrev Inv-loop : tie.InvT-loop
-Inv-loop map store₀ image begun flow₀ turns₀ store flow turns = length store ≡ length store₀
+Inv-loop map store₀ image first begun flow₀ turns₀ store flow turns = length store ≡ length store₀
 
 abbrev μ-loop : tie.MeasureT-loop
-μ-loop map store₀ image begun flow₀ turns₀ store flow turns = turns
+μ-loop map store₀ image first begun flow₀ turns₀ store flow turns = turns
 
 loop-holds : tie.Need-loop-holds Inv-loop μ-loop
 loop-holds c = refl
