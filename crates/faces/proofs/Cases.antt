@@ -12,7 +12,7 @@ use Rattle.banks.specs.Rules.{checkNumber}
 use Rattle.looks.specs.Look.{lookNumber, lookOf}
 use Rattle.numbers.proofs.Computing.{reading, checking, looking, meaning, storing, keeping, rooms}
 use Rattle.unit.proofs.Bench.{filling, acting, calling}
-use Rattle.packing.specs.StateBytes.{bytesOf, stateBytes, fourAt, stateOf, shapeHolds}
+use Rattle.packing.specs.StateBytes.{fourOf, stateBytes, fourAt, stateOf, shapeHolds}
 use Rattle.faces.specs.Answers.{replyWord, lookWord}
 use Rattle.faces.specs.Face.{thenNumber, startFace, frameFace, powerOnFace, runFace}
 use Rattle.faces.specs.Cases.{Cases}
@@ -24,7 +24,7 @@ unfolding lookNumber lookOf trailingZeros addressAt schemeAt fieldAt bytesFrame 
 words = tt
 
 unfoldable faces : Unit {0}
-unfolding bytesOf stateBytes fourAt stateOf shapeHolds replyWord lookWord thenNumber startFace frameFace powerOnFace
+unfolding fourOf stateBytes fourAt stateOf shapeHolds replyWord lookWord thenNumber startFace frameFace powerOnFace
     runFace
 faces = tt
 

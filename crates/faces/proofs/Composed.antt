@@ -12,7 +12,7 @@ use Rattle.frames.specs.declared.message.Reading.{Reading}
 use Rattle.frames.proofs.Round.{writings-fit}
 use Rattle.composing.specs.Compose.{orMissing, sourceFits, eventBy, composeOf, powerFits, powerBy, composePowerOf}
 use Rattle.composing.specs.declared.source.Source.{Source}
-use Rattle.faces.specs.Answers.{outOfRange, writtenOf, source, fieldsHeld, Held}
+use Rattle.faces.specs.Answers.{outOfRange, writtenOf, source, fieldsHeld, FieldsHeld}
 
 below : (x limit : ℕ) → limit ≤ 255 → orMissing x limit ≡ true → x ≤ 255
 unfolding orMissing
@@ -23,7 +23,7 @@ below x limit h e = go (ltb x limit) refl e
     go false p q = omega (arith, eqb-true x 255 q)
 
 fits-held : (e : Source) → sourceFits e ≡ true →
-    Held (e .sort) (e .number) (e .primary) (e .short) (e .information) (e .scheme)
+    FieldsHeld (e .sort) (e .number) (e .primary) (e .short) (e .information) (e .scheme)
 unfolding sourceFits
 fits-held e f =
     let p₁ = both (ltb (e .sort) 32) _ f in
@@ -43,7 +43,7 @@ fits-held e f =
 
 module _ (sort number primary short information scheme : ℕ) where
   pub held : fieldsHeld sort number primary short information scheme ≡ true →
-      Held sort number primary short information scheme
+      FieldsHeld sort number primary short information scheme
   held f =
       let p₆ = both (leb sort 255 && leb number 255 && leb primary 255 && leb short 255 && leb scheme 255) _ f in
       let p₅ = both (leb sort 255 && leb number 255 && leb primary 255 && leb short 255) _ (p₆ .0) in
@@ -59,7 +59,7 @@ module _ (sort number primary short information scheme : ℕ) where
         low-scheme = leb-true scheme 255 (p₅ .1);
       }
 
-  all-held : Held sort number primary short information scheme →
+  all-held : FieldsHeld sort number primary short information scheme →
       fieldsHeld sort number primary short information scheme ≡ true
   all-held h =
       rw (

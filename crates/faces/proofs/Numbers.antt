@@ -21,7 +21,7 @@ use Rattle.numbers.specs.Promises.{GivenBy}
 use Rattle.unit.specs.Step.{stepOf, powerOnOf}
 use Rattle.unit.specs.Promises.{numberOf, Refuses as UnitRefuses}
 use Rattle.unit.proofs.Numbers.{calls-refused, calls-reply}
-use Rattle.packing.specs.StateBytes.{bytesOf, stateBytes, stateOf, shapeHolds}
+use Rattle.packing.specs.StateBytes.{fourOf, stateBytes, stateOf, shapeHolds}
 use Rattle.packing.specs.Promises.{Bytes}
 use Rattle.packing.proofs.Round.{bytes-back}
 use Rattle.faces.specs.Face.{facedBy, thenNumber, onBytes, frameFace, powerOnFace, startFace}
@@ -84,7 +84,7 @@ on-bytes map store bytes size o false e h f =
     rw e (record { unanswered = refl; no-answer = refl; state-stays = refl; store-stays = refl })
 
 zero-bytes : stateBytes zeroState ≡ replicate 96 0
-unfolding stateBytes bytesOf bits zeroState
+unfolding stateBytes fourOf bits zeroState
 zero-bytes = refl
 
 pub faces-refused : FacesRefused

@@ -58,7 +58,7 @@ abbrev pub fieldsHeld : ℕ → ℕ → ℕ → ℕ → ℕ → ℕ → Bool
 fieldsHeld sort number primary short information scheme =
     (leb sort 255 && leb number 255 && leb primary 255 && leb short 255 && leb scheme 255) && leb information 65535
 
-pub record Held (sort number primary short information scheme : ℕ) : Type 0 where
+pub record FieldsHeld (sort number primary short information scheme : ℕ) : Type 0 where
   pub low-sort : sort ≤ 255
   pub low-number : number ≤ 255
   pub low-primary : primary ≤ 255

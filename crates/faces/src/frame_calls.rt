@@ -2,7 +2,7 @@
 ghost use mathlib.Core.Path.{_≡_};
 ghost use mathlib.Core.Bool.{true};
 ghost use Rattle.frames.specs.Values.{writingWord};
-ghost use Rattle.faces.specs.Answers.{outOfRange, fieldsHeld, Held};
+ghost use Rattle.faces.specs.Answers.{outOfRange, fieldsHeld, FieldsHeld};
 ghost use Rattle.faces.specs.Promises.{ReadFacePromise, WriteFacePromise};
 ghost use Rattle.faces.specs.Promises.{ComposeEventFacePromise, ComposePowerFacePromise};
 use crate::answers::writing_word;
@@ -37,7 +37,7 @@ pub fn write_face(word: u64) -> u32
 // Each field of a source fits its type.
 fn is_held(sort: u32, number: u32, primary: u32, short: u32, information: u32, scheme: u32) -> bool
     ensures same { λ r. ⌜ r ≡ fieldsHeld sort number primary short information scheme ⌝ }
-    ensures facts { λ r. ⌜ (r ≡ true → Held sort number primary short information scheme) ⌝ }
+    ensures facts { λ r. ⌜ (r ≡ true → FieldsHeld sort number primary short information scheme) ⌝ }
 {
     let bytes = (sort <= 255)
         & (number <= 255)

@@ -15,7 +15,7 @@ use Rattle.history.specs.Demand.{bytesOf, Whole, Demand, ReadOnlyStay}
 use Rattle.history.proofs.Demand.{unit-demand, unit-read-only}
 use Rattle.faces.specs.Face.{Faced, startFace, frameFace}
 use Rattle.lifted.specs.Machine.{callLeft, cMachine}
-use Rattle.lifted.specs.Promises.{Told, AcceptsAsUnit, DemandInC, ReadOnlyStayInC}
+use Rattle.lifted.specs.Promises.{Tellable, AcceptsAsUnit, DemandInC, ReadOnlyStayInC}
 use Rattle.lifted.proofs.Following.{follows-unit}
 
 -- what the one accepts the other accepts, and leaves the same store
@@ -74,7 +74,7 @@ told-by : (told : Bool) (bytes store : List ℕ) (f : Faced) → callLeft told b
 told-by true bytes store f e = refl
 told-by false bytes store f e = absurd (omega arith)
 
-was-told : (start : Start) (h : List Input) → Accepted cMachine start h → Told start h
+was-told : (start : Start) (h : List Input) → Accepted cMachine start h → Tellable start h
 unfolding cMachine
 was-told start [] A =
     told-by _ _ _ (startFace (start .map) (start .store) (start .image) (start .who .address) (start .who .groups)) A
@@ -86,7 +86,7 @@ was-told start (hears x ∷ h) A =
     )
 
 unit-accepts : (start : Start) (h : List Input)
-    → Told start h → Accepted cMachine start h → Accepted unitMachine start h
+    → Tellable start h → Accepted cMachine start h → Accepted unitMachine start h
 unit-accepts start [] t A = sym (follows-unit start [] t .number) ∙ A
 unit-accepts start (power-on ∷ h) t A =
     (sym (follows-unit start (power-on ∷ h) t .number) ∙ A .0, unit-accepts start h t (A .1))
@@ -94,7 +94,7 @@ unit-accepts start (hears x ∷ h) t A =
     (sym (follows-unit start (hears x ∷ h) t .number) ∙ A .0, unit-accepts start h (t .1) (A .1))
 
 c-accepts : (start : Start) (h : List Input)
-    → Told start h → Accepted unitMachine start h → Accepted cMachine start h
+    → Tellable start h → Accepted unitMachine start h → Accepted cMachine start h
 c-accepts start [] t A = follows-unit start [] t .number ∙ A
 c-accepts start (power-on ∷ h) t A =
     (follows-unit start (power-on ∷ h) t .number ∙ A .0, c-accepts start h t (A .1))

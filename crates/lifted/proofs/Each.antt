@@ -25,7 +25,7 @@ use Rattle.packing.specs.Promises.{Bytes}
 use Rattle.packing.proofs.Round.{bytes-back}
 use Rattle.faces.specs.Face.{RunFaced, facedBy, shapeNumber, frameFace, powerOnFace, refusedRun, runBy, runFace}
 use Rattle.lifted.specs.Machine.{fits}
-use Rattle.lifted.specs.Run.{before, eachOf, entryFits}
+use Rattle.lifted.specs.Run.{ahead, eachOf, entryFits}
 use Rattle.lifted.specs.Promises.{RunEach, RecordsFit}
 use Rattle.lifted.proofs.Fitting.{Fits, step-fits, power-fits}
 use Rattle.lifted.proofs.Following.{frame-as, power-as, heard-32}
@@ -42,12 +42,12 @@ module _ (map image : List ℕ) where
       let o = stepOf map store image s x in
       let b = both (fits frame && fits clock) (every entryFits es) t in
       rw (frame-as map store image s h x)
-      (ap (before (facedBy o))
+      (ap (ahead (facedBy o))
       (of-state (o .store) (o .answer .state) es (step-fits map store image x (heard-32 x (b .0)) s h) (b .1)))
   of-state store s (Entry.PowerOn ∷ es) h t =
       let o = powerOnOf map store image s in
       rw (power-as map store image s h)
-      (ap (before (facedBy o)) (of-state (o .store) (o .answer .state) es (power-fits map store image s h) t))
+      (ap (ahead (facedBy o)) (of-state (o .store) (o .answer .state) es (power-fits map store image s h) t))
   of-state store s (Entry.Broken ∷ es) h t = refl
 
   -- ---- bytes that are none

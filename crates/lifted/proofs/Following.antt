@@ -17,7 +17,7 @@ use Rattle.packing.specs.StateBytes.{stateBytes}
 use Rattle.packing.proofs.Round.{state-back}
 use Rattle.faces.specs.Face.{Faced, facedBy, startFace, frameFace, powerOnFace}
 use Rattle.lifted.specs.Machine.{fits, facedLeft, cMachine}
-use Rattle.lifted.specs.Promises.{Told, Follows, FollowsUnit}
+use Rattle.lifted.specs.Promises.{Tellable, Follows, FollowsUnit}
 use Rattle.lifted.proofs.Fitting.{Fits, Heard32, start-fits, step-fits, power-fits}
 
 -- a call on the bytes of a state that they hold is the call on that state
@@ -45,7 +45,7 @@ record FollowsFit (start : Start) (h : List Input) : Type 0 where
   fits-there : Fits (leftAfter unitMachine start h .state)
 
 module _ (start : Start) where
-  follows-fit : (h : List Input) → Told start h → FollowsFit start h
+  follows-fit : (h : List Input) → Tellable start h → FollowsFit start h
   unfolding cMachine unitMachine startFace
   follows-fit [] t = record {
     follows = rw t (record { number = refl; state = refl; store = refl });

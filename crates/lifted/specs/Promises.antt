@@ -21,10 +21,10 @@ use Rattle.lifted.specs.Run.{eachOf, entryFits}
 -- ---- the demand
 
 -- a start and a history that C can be told
-abbrev pub Told : Start → List Input → Type 0
-Told start [] = (fits (start .who .address) && fits (start .who .groups)) ≡ true
-Told start (power-on ∷ h) = Told start h
-Told start (hears x ∷ h) = ((fits (x .frame) && fits (x .clock)) ≡ true) × Told start h
+abbrev pub Tellable : Start → List Input → Type 0
+Tellable start [] = (fits (start .who .address) && fits (start .who .groups)) ≡ true
+Tellable start (power-on ∷ h) = Tellable start h
+Tellable start (hears x ∷ h) = ((fits (x .frame) && fits (x .clock)) ≡ true) × Tellable start h
 
 -- the same number, the state as its bytes, the same store
 pub record Follows (c : Left (List ℕ)) (u : Left State) : Type 0 where
@@ -34,14 +34,14 @@ pub record Follows (c : Left (List ℕ)) (u : Left State) : Type 0 where
 
 -- after every such history, refused inputs and a refused start too, C's unit is ours
 abbrev pub FollowsUnit : Type 0
-FollowsUnit = (start : Start) (h : List Input) → Told start h
+FollowsUnit = (start : Start) (h : List Input) → Tellable start h
     → Follows (leftAfter cMachine start h) (leftAfter unitMachine start h)
 
 -- it accepts exactly what ours accepts of what it can be told
 abbrev pub AcceptsAsUnit : Type 0
 AcceptsAsUnit = (start : Start) (h : List Input)
-    → (Accepted cMachine start h → Told start h × Accepted unitMachine start h)
-    × (Told start h → Accepted unitMachine start h → Accepted cMachine start h)
+    → (Accepted cMachine start h → Tellable start h × Accepted unitMachine start h)
+    × (Tellable start h → Accepted unitMachine start h → Accepted cMachine start h)
 
 -- demand 3, the same, of the 96 bytes and the C calls
 abbrev pub DemandInC : Type 0

@@ -10,17 +10,17 @@ use Rattle.faces.specs.Face.{Faced, RunFaced, frameFace, powerOnFace}
 use Rattle.lifted.specs.Machine.{fits}
 
 -- a call's four bytes (number, answered, answer, zero), and behind them what the records after it write
-abbrev pub before : Faced → RunFaced → RunFaced
-before f r = record { output = outputOf (f .reply) ++ r .output; state = r .state; store = r .store }
+abbrev pub ahead : Faced → RunFaced → RunFaced
+ahead f r = record { output = outputOf (f .reply) ++ r .output; state = r .state; store = r .store }
 
 -- record after record: mf_frame or mf_power_on on the state's bytes and the store that the call before it left; one of
 -- unknown kind gets 13, and ends the run
 abbrev pub eachOf : List ℕ → List ℕ → List ℕ → List ℕ → List Entry → RunFaced
 eachOf map image store bytes [] = record { output = []; state = bytes; store = store }
 eachOf map image store bytes (Entry.Frame clock frame ∷ es) =
-    let f : Faced = frameFace map store image bytes frame clock in before f (eachOf map image (f .store) (f .state) es)
+    let f : Faced = frameFace map store image bytes frame clock in ahead f (eachOf map image (f .store) (f .state) es)
 eachOf map image store bytes (Entry.PowerOn ∷ es) =
-    let f : Faced = powerOnFace map store image bytes in before f (eachOf map image (f .store) (f .state) es)
+    let f : Faced = powerOnFace map store image bytes in ahead f (eachOf map image (f .store) (f .state) es)
 eachOf map image store bytes (Entry.Broken ∷ es) = record { output = broken; state = bytes; store = store }
 
 -- clock and frame have 32 bits, as those of every record of bytes have

@@ -7,7 +7,7 @@ use mathlib.Core.List.{List, [], _∷_, _++_, map}
 use Prim.Native.Nat.{ℕ}
 use lib.ListN.{replicate}
 use Rattle.records.specs.Map.{recordsOf}
-use Rattle.records.specs.Cases.{row}
+use Rattle.records.specs.Cases.{mapRow}
 use Rattle.memory.specs.Latched.{readByte}
 use Rattle.memory.specs.Filled.{filledOf}
 use Rattle.memory.specs.declared.latched.Latch.{Latch}
@@ -18,8 +18,8 @@ use Rattle.memory.specs.declared.filled.Filling.the-variants.{Reset}
 -- bank 2 RAM-RW and not lockable
 abbrev pub twoBanks : List ℕ
 twoBanks =
-    row 1 0x00 1 0 0 0 0 0 ++ row 1 0x02 1 2 0 0 0 1 ++ row 1 0x03 2 4 1 0 0 2
-    ++ row 2 0x00 1 0 0 0 0 4 ++ row 2 0x02 1 2 0 0 0 5 ++ row 2 0x03 2 2 0 0 0 6
+    mapRow 1 0x00 1 0 0 0 0 0 ++ mapRow 1 0x02 1 2 0 0 0 1 ++ mapRow 1 0x03 2 4 1 0 0 2
+    ++ mapRow 2 0x00 1 0 0 0 0 4 ++ mapRow 2 0x02 1 2 0 0 0 5 ++ mapRow 2 0x03 2 2 0 0 0 6
 
 -- lock byte and value of bank 1, then of bank 2, and a byte under no record
 abbrev pub twoStore : ℕ → ℕ → ℕ → ℕ → ℕ → ℕ → List ℕ

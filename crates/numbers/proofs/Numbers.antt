@@ -6,7 +6,7 @@ use mathlib.Core.Bool.{Bool, true, false}
 use mathlib.Core.List.{List, [], _∷_, _++_}
 use native.Mathlib.Omega.{arith}
 use lib.Dec.{ltb}
-use lib.ListN.{length}
+use lib.ListN.{length, drop}
 use Rattle.laws.specs.Choice.{if_then_else_}
 use Rattle.laws.specs.Numbers.{Test, test, firstFailing, numbered}
 use Rattle.laws.proofs.Numbers.{exactly-if, none-exactly-if}
@@ -64,7 +64,7 @@ module _ (map store : List ℕ) (size : ℕ) (us : List Test) where
 module _ (map store : List ℕ) (size : ℕ) (s : State) where
   power-first : 0 < checkNumber map store size → powerNumber map store size s ≡ checkNumber map store size
   unfolding powerNumber
-  power-first = checks-first map store size _
+  power-first = checks-first map store size (drop 5 (powerTests map store size s))
 
   power-then : checkNumber map store size ≡ 0
       → powerNumber map store size s ≡ (if stateHolds (recordsOf map) store s then 0 else 12)

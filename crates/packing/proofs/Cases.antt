@@ -4,11 +4,11 @@ use mathlib.Core.Path.{refl}
 use Rattle.laws.specs.Bits.{bits}
 use Rattle.laws.specs.Parts.{part}
 use Rattle.rooms.specs.State.{withWho, withRegisters, withWaiting, withDoor, withLatch}
-use Rattle.packing.specs.StateBytes.{bytesOf, stateBytes, fourAt, stateOf, shapeHolds}
+use Rattle.packing.specs.StateBytes.{fourOf, stateBytes, fourAt, stateOf, shapeHolds}
 use Rattle.packing.specs.Cases.{Cases}
 
 pub cases : Cases
-unfolding bits part bytesOf stateBytes fourAt stateOf shapeHolds withWho withRegisters withWaiting withDoor withLatch
+unfolding bits part fourOf stateBytes fourAt stateOf shapeHolds withWho withRegisters withWaiting withDoor withLatch
 cases =
     record {
       places = (refl, refl);

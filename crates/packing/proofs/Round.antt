@@ -16,7 +16,7 @@ use Rattle.laws.proofs.Bits.{above-all, above-none, cut}
 use Rattle.rooms.specs.State.{withWho, withRegisters, withWaiting, withDoor, withLatch}
 use Rattle.rooms.specs.declared.state.State.{State}
 use Rattle.entries.specs.Entry.{fourBytes}
-use Rattle.packing.specs.StateBytes.{flag, bytesOf, used, stateBytes, fourAt, stateOf, shapeHolds}
+use Rattle.packing.specs.StateBytes.{flag, fourOf, used, stateBytes, fourAt, stateOf, shapeHolds}
 use Rattle.packing.specs.Promises.{StateHeld, StateBack, Bytes, BytesBack}
 use Rattle.packing.proofs.Spelled.{at, part-items, spelled, zeros-are}
 
@@ -42,7 +42,7 @@ flag-low true = refl
 flag-low false = refl
 
 pub state-back : StateBack
-unfolding stateBytes bytesOf stateOf withWho withRegisters withWaiting withDoor withLatch fourAt shapeHolds part
+unfolding stateBytes fourOf stateOf withWho withRegisters withWaiting withDoor withLatch fourAt shapeHolds part
 state-back s h =
     rw (
       spelled 8 (s .door .staged .bytes) (h .staged),
@@ -61,8 +61,8 @@ state-back s h =
 
 -- four bytes are those of their number
 bytes-back-four : (a b c d : ℕ) → a < 256 → b < 256 → c < 256 → d < 256 →
-    bytesOf (fourBytes a b c d) ≡ a ∷ b ∷ c ∷ d ∷ []
-unfolding bytesOf bits
+    fourOf (fourBytes a b c d) ≡ a ∷ b ∷ c ∷ d ∷ []
+unfolding fourOf bits
 bytes-back-four a b c d p q r s = rw (e₁, e₂, e₃, e₄)
   where
     e₁ : fourBytes a b c d / 2 ^ 24 % 2 ^ 8 ≡ a
@@ -83,7 +83,7 @@ flag-of (suc zero) h = refl
 flag-of (suc (suc x)) h = absurd (omega arith)
 
 module _ (b : List ℕ) (h : Bytes b) (t : shapeHolds b ≡ true) where
-  four-of : (i : ℕ) → bytesOf (fourAt b i) ≡ at b i ∷ at b (i + 1) ∷ at b (i + 2) ∷ at b (i + 3) ∷ []
+  four-of : (i : ℕ) → fourOf (fourAt b i) ≡ at b i ∷ at b (i + 1) ∷ at b (i + 2) ∷ at b (i + 3) ∷ []
   unfolding fourAt
   four-of i = bytes-back-four _ _ _ _ (h .small i) (h .small (i + 1)) (h .small (i + 2)) (h .small (i + 3))
 

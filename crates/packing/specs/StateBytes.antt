@@ -23,12 +23,12 @@ abbrev pub flag : Bool → ℕ
 flag b = if b then 1 else 0
 
 -- a number's four bytes, high first
-unfoldable pub bytesOf : ℕ → List ℕ
-bytesOf n = bits n 31 24 ∷ bits n 23 16 ∷ bits n 15 8 ∷ bits n 7 0 ∷ []
+unfoldable pub fourOf : ℕ → List ℕ
+fourOf n = bits n 31 24 ∷ bits n 23 16 ∷ bits n 15 8 ∷ bits n 7 0 ∷ []
 
 -- 0 address; 1..4 groups
 abbrev pub whoBytes : Who → List ℕ
-whoBytes who = who .address ∷ bytesOf (who .groups)
+whoBytes who = who .address ∷ fourOf (who .groups)
 
 -- 5, 6, 7 DTR0..2
 abbrev pub registersBytes : Registers → List ℕ
@@ -36,7 +36,7 @@ registersBytes d = d .dtr0 ∷ d .dtr1 ∷ d .dtr2 ∷ []
 
 -- 8 waiting (0/1); 9..12 its frame; 13..16 its clock
 abbrev pub waitingBytes : Waiting → List ℕ
-waitingBytes w = flag (w .held) ∷ bytesOf (w .frame) ++ bytesOf (w .clock)
+waitingBytes w = flag (w .held) ∷ fourOf (w .frame) ++ fourOf (w .clock)
 
 -- 17 write-enable (0/1); 18 staged count; 19 its bank; 20 its first location; 21..28 staged bytes
 abbrev pub doorBytes : Door → List ℕ

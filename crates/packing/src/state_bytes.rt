@@ -3,7 +3,7 @@ ghost use mathlib.Core.Path.{_≡_};
 ghost use Prim.Native.Nat.{_+_, _≤_};
 ghost use Rattle.laws.specs.Lists.{every};
 ghost use Rattle.laws.specs.Parts.{part, put};
-ghost use Rattle.packing.specs.StateBytes.{flag, bytesOf, fourAt, used};
+ghost use Rattle.packing.specs.StateBytes.{flag, fourOf, fourAt, used};
 ghost use Rattle.packing.specs.StateBytes.{whoAt, registersAt, waitingAt, doorAt, latchAt};
 ghost use Rattle.packing.specs.Promises.{PackPromise, UnpackPromise, ShapeHoldsPromise};
 ghost use lib.Dec.{eqb};
@@ -145,7 +145,7 @@ pub fn shape_holds(bytes: [u8; 96]) -> bool
 // Internal: the number's four bytes, put from place i on.
 fn put_four(bytes: [u8; 96], i: usize, n: u32) -> [u8; 96]
     requires { ⌜ i + 4 ≤ 96 ⌝ }
-    ensures { λ r. ⌜ r ≡ put i (bytesOf n) bytes ⌝ }
+    ensures { λ r. ⌜ r ≡ put i (fourOf n) bytes ⌝ }
 {
     let mut b = bytes;
     b[i] = (n / 16777216 % 256) as u8;

@@ -9,19 +9,19 @@ use Rattle.records.specs.Order.{orderNumber}
 pub use Rattle.records.specs.Bench.{benchMap}
 
 -- a record of the map: bank, first location, width, kind, lockable, zero, store offset
-abbrev pub row : ℕ → ℕ → ℕ → ℕ → ℕ → ℕ → ℕ → ℕ → List ℕ
-row bank first width kind lockable zero high low = bank ∷ first ∷ width ∷ kind ∷ lockable ∷ zero ∷ high ∷ low ∷ []
+abbrev pub mapRow : ℕ → ℕ → ℕ → ℕ → ℕ → ℕ → ℕ → ℕ → List ℕ
+mapRow bank first width kind lockable zero high low = bank ∷ first ∷ width ∷ kind ∷ lockable ∷ zero ∷ high ∷ low ∷ []
 
 -- the byte at 0x00 and the lock byte of a bank, at the first two places of the store
-abbrev pub head : ℕ → List ℕ
-head bank = row bank 0x00 1 0 0 0 0 0
+abbrev pub headRow : ℕ → List ℕ
+headRow bank = mapRow bank 0x00 1 0 0 0 0 0
 
-abbrev pub lock : ℕ → List ℕ
-lock bank = row bank 0x02 1 2 0 0 0 1
+abbrev pub lockRow : ℕ → List ℕ
+lockRow bank = mapRow bank 0x02 1 2 0 0 0 1
 
 -- bank 2 with more values
 abbrev pub with : List ℕ → List ℕ
-with values = head 2 ++ lock 2 ++ values
+with values = headRow 2 ++ lockRow 2 ++ values
 
 pub record OrderCase : Type 0 where
   pub records : List ℕ
@@ -40,33 +40,33 @@ orderCases =
     ∷ gets (replicate 512 0) 8
     ∷ gets (replicate 520 0) 7
     -- 8: bank, width, last location, kind, lockable, zero
-    ∷ gets (head 199 ++ lock 199) 0
-    ∷ gets (head 200 ++ lock 200) 8
-    ∷ gets (with (row 2 0x03 0 4 0 0 0 2)) 8
-    ∷ gets (with (row 2 0x03 1 4 0 0 0 2)) 0
-    ∷ gets (with (row 2 0x03 8 4 0 0 0 2)) 0
-    ∷ gets (with (row 2 0x03 9 4 0 0 0 2)) 8
-    ∷ gets (with (row 2 0xFE 1 4 0 0 0 2)) 0
-    ∷ gets (with (row 2 0xFF 1 4 0 0 0 2)) 8
-    ∷ gets (with (row 2 0xF7 8 4 0 0 0 2)) 0
-    ∷ gets (with (row 2 0xF8 8 4 0 0 0 2)) 8
-    ∷ gets (with (row 2 0x03 1 5 0 0 0 2)) 8
-    ∷ gets (with (row 2 0x03 1 2 1 0 0 2)) 0
-    ∷ gets (with (row 2 0x03 1 4 2 0 0 2)) 8
-    ∷ gets (with (row 2 0x03 1 0 1 0 0 2)) 8
-    ∷ gets (with (row 2 0x03 1 1 1 0 0 2)) 8
-    ∷ gets (with (row 2 0x03 1 3 1 0 0 2)) 8
-    ∷ gets (with (row 2 0x03 1 4 0 1 0 2)) 8
+    ∷ gets (headRow 199 ++ lockRow 199) 0
+    ∷ gets (headRow 200 ++ lockRow 200) 8
+    ∷ gets (with (mapRow 2 0x03 0 4 0 0 0 2)) 8
+    ∷ gets (with (mapRow 2 0x03 1 4 0 0 0 2)) 0
+    ∷ gets (with (mapRow 2 0x03 8 4 0 0 0 2)) 0
+    ∷ gets (with (mapRow 2 0x03 9 4 0 0 0 2)) 8
+    ∷ gets (with (mapRow 2 0xFE 1 4 0 0 0 2)) 0
+    ∷ gets (with (mapRow 2 0xFF 1 4 0 0 0 2)) 8
+    ∷ gets (with (mapRow 2 0xF7 8 4 0 0 0 2)) 0
+    ∷ gets (with (mapRow 2 0xF8 8 4 0 0 0 2)) 8
+    ∷ gets (with (mapRow 2 0x03 1 5 0 0 0 2)) 8
+    ∷ gets (with (mapRow 2 0x03 1 2 1 0 0 2)) 0
+    ∷ gets (with (mapRow 2 0x03 1 4 2 0 0 2)) 8
+    ∷ gets (with (mapRow 2 0x03 1 0 1 0 0 2)) 8
+    ∷ gets (with (mapRow 2 0x03 1 1 1 0 0 2)) 8
+    ∷ gets (with (mapRow 2 0x03 1 3 1 0 0 2)) 8
+    ∷ gets (with (mapRow 2 0x03 1 4 0 1 0 2)) 8
     -- 9: order of banks and of locations, and locations shared
-    ∷ gets (lock 2 ++ head 2) 9
-    ∷ gets (head 2 ++ lock 2 ++ row 3 0x00 1 0 0 0 0 2 ++ row 3 0x02 1 2 0 0 0 3) 0
-    ∷ gets (row 3 0x00 1 0 0 0 0 2 ++ row 3 0x02 1 2 0 0 0 3 ++ head 2 ++ lock 2) 9
-    ∷ gets (with (row 2 0x02 1 4 0 0 0 2)) 9
-    ∷ gets (with (row 2 0x03 4 4 0 0 0 2 ++ row 2 0x06 1 4 0 0 0 6)) 9
-    ∷ gets (with (row 2 0x03 4 4 0 0 0 2 ++ row 2 0x07 1 4 0 0 0 6)) 0
+    ∷ gets (lockRow 2 ++ headRow 2) 9
+    ∷ gets (headRow 2 ++ lockRow 2 ++ mapRow 3 0x00 1 0 0 0 0 2 ++ mapRow 3 0x02 1 2 0 0 0 3) 0
+    ∷ gets (mapRow 3 0x00 1 0 0 0 0 2 ++ mapRow 3 0x02 1 2 0 0 0 3 ++ headRow 2 ++ lockRow 2) 9
+    ∷ gets (with (mapRow 2 0x02 1 4 0 0 0 2)) 9
+    ∷ gets (with (mapRow 2 0x03 4 4 0 0 0 2 ++ mapRow 2 0x06 1 4 0 0 0 6)) 9
+    ∷ gets (with (mapRow 2 0x03 4 4 0 0 0 2 ++ mapRow 2 0x07 1 4 0 0 0 6)) 0
     -- two rules broken: the lower number
     ∷ gets (0 ∷ []) 7
-    ∷ gets (row 2 0x03 9 4 0 0 0 2 ++ head 2) 8
+    ∷ gets (mapRow 2 0x03 9 4 0 0 0 2 ++ headRow 2) 8
     ∷ []
 
 -- each case gets its number

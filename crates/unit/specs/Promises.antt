@@ -66,7 +66,7 @@ pub record Refused (map store image : List ℕ) (n : ℕ) : Type 0 where
       → Refuses (stepOf map store image s heard) n s store
 
 -- number 0: the call does what its definition for an accepted map, store and state says
-pub record Accepted (map store image : List ℕ) : Type 0 where
+pub record Does (map store image : List ℕ) : Type 0 where
   pub start : (who : Who) → startNumber map store (length image) who ≡ 0
       → startOf map store image who ≡ powerStep (recordsOf map) store image (withWho zeroState who)
   pub power-on : (s : State) → powerNumber map store (length image) s ≡ 0
@@ -84,4 +84,4 @@ abbrev pub CallsRefused : Type 0
 CallsRefused = (map store image : List ℕ) (n : ℕ) → 0 < n → Refused map store image n
 
 abbrev pub CallsAccepted : Type 0
-CallsAccepted = (map store image : List ℕ) → Accepted map store image
+CallsAccepted = (map store image : List ℕ) → Does map store image
