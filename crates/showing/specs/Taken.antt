@@ -1,6 +1,7 @@
 -- The unit's own start and step, which the words are about.
 -- Assumes nothing.
 use Prim.Native.Nat.{ℕ}
+use mathlib.Core.Bool.{Bool, true, false}
 use mathlib.Core.Path.{_≡_}
 use mathlib.Core.List.{List}
 use lib.ListN.{length}
@@ -10,7 +11,6 @@ use Rattle.rooms.specs.declared.reply.Stepped.{Stepped}
 use Rattle.entries.specs.Entry.{entries}
 use Rattle.tracing.specs.Trace.{Traced, tracedOf}
 use Rattle.tracing.specs.Run.{roomFor}
-use Rattle.telling.specs.declared.told.Step.{Step}
 
 -- state and store are those that a start leaves
 pub record Begun (state : State) (store : List ℕ) (o : Outcome Stepped) : Type 0 where
@@ -22,6 +22,11 @@ abbrev pub oneOf : List ℕ → List ℕ → List ℕ → State → List ℕ →
 oneOf map image store was bytes = tracedOf map image store was (entries bytes (roomFor (length bytes) 4))
 
 -- state and store are those that a run leaves
-pub record Taken (step : Step) (store : List ℕ) (t : Traced) : Type 0 where
-  pub state-is : step .state ≡ t .state
+pub record Taken (state : State) (store : List ℕ) (t : Traced) : Type 0 where
+  pub state-is : state ≡ t .state
   pub store-is : store ≡ t .store
+
+-- a record's step, where another record may follow; an end changes nothing
+pub record Next (more : Bool) (state : State) (store : List ℕ) (was : State) (before : List ℕ) (t : Traced) : Type 0 where
+  pub steps : more ≡ true → Taken state store t
+  pub ends : more ≡ false → (state ≡ was) × (store ≡ before)

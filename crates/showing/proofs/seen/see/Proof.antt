@@ -1,4 +1,4 @@
--- `telling::seen::see` meets its contract.
+-- `showing::seen::see` meets its contract.
 -- Assumes nothing.
 use Prim.Native.Nat.{_-_}
 use mathlib.Core.Path.{_≡_, refl}
@@ -6,9 +6,9 @@ use lib.ListN.{length, length-set}
 use native.Mathlib.Omega.{arith}
 use borrow.Author.Needs.{needs}
 use borrow.Author.Tests.{ltb-true, ltb-false}
-use Rattle.telling.proofs.Seeing.{Front, seen-none, seen-more, seen-all}
-use Rattle.telling.proofs.seen.see.Statement.{statement}
-use Rattle.telling.proofs.seen.see.Tie as tie
+use Rattle.showing.proofs.Seeing.{Front, seen-none, seen-more, seen-all}
+use Rattle.showing.proofs.seen.see.Statement.{statement}
+use Rattle.showing.proofs.seen.see.Tie as tie
 
 abbrev Inv-loop : tie.InvT-loop
 Inv-loop seen₀ store i₀ seen i = (length seen ≡ length seen₀) × Front seen store i

@@ -2,7 +2,7 @@
 ghost use Prim.Native.Nat.{_≤_};
 ghost use mathlib.Core.Path.{_≡_};
 ghost use lib.ListN.{length};
-ghost use Rattle.telling.specs.Seen.{Seen};
+ghost use Rattle.showing.specs.Seen.{Seen};
 
 fn see(seen: &mut [u8], store: &[u8])
     ensures { λ _. ⌜ Seen (now (seen .exit)) (now (store .entry)) ⌝ }

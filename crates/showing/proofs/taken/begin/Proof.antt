@@ -1,10 +1,10 @@
--- `telling::taken::begin` meets its contract.
+-- `showing::taken::begin` meets its contract.
 -- Assumes nothing.
 use mathlib.Core.Path.{ap}
 use borrow.Author.Needs.{needs}
 use Rattle.rooms.specs.declared.reply.Stepped.{Stepped}
-use Rattle.telling.proofs.taken.begin.Statement.{statement}
-use Rattle.telling.proofs.taken.begin.Tie as tie
+use Rattle.showing.proofs.taken.begin.Statement.{statement}
+use Rattle.showing.proofs.taken.begin.Tie as tie
 
 returns : tie.Need-returns
 returns c =

@@ -1,9 +1,9 @@
 // The unit's own start and steps: nothing that is told is worked out a second time.
 ghost use Rattle.unit.specs.Step.{startOf};
-ghost use Rattle.telling.specs.Taken.{Begun, Taken, oneOf};
-use crate::told::Step;
+ghost use Rattle.showing.specs.Taken.{Begun, Taken, oneOf};
 use hearing::Who;
 use rooms::State;
+use telling::Step;
 
 // The state that a start leaves.
 pub fn begin(map: &[u8], store: &mut [u8], image: &[u8], who: Who) -> State
@@ -25,7 +25,7 @@ fn staged_width(map: &[u8], store: &[u8], state: State) -> u8 {
 
 // The step that a record makes the unit take.
 pub fn take_step(map: &[u8], store: &mut [u8], image: &[u8], was: State, bytes: &[u8; 8]) -> Step
-    ensures { λ r. ⌜ Taken r (now (store .exit))
+    ensures { λ r. ⌜ Taken (r .state) (now (store .exit))
         (oneOf (now (map .entry)) (now (image .entry)) (now (store .entry)) was (now (bytes .entry))) ⌝ }
 {
     let mut reply = [0u8; 4];

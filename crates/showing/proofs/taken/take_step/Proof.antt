@@ -1,8 +1,8 @@
--- `telling::taken::take_step` meets its contract.
+-- `showing::taken::take_step` meets its contract.
 -- Assumes nothing.
 use borrow.Author.Needs.{needs}
-use Rattle.telling.proofs.taken.take_step.Statement.{statement}
-use Rattle.telling.proofs.taken.take_step.Tie as tie
+use Rattle.showing.proofs.taken.take_step.Statement.{statement}
+use Rattle.showing.proofs.taken.take_step.Tie as tie
 
 returns : tie.Need-returns
 returns c =
