@@ -1,5 +1,5 @@
-/* stack LIMIT: the stack that each call of the C library needs, in bytes: it runs on a stack of its own that was painted
-   before, and the lowest byte that it wrote counts. Worst over random units, each with a start, a reset of all its banks,
+/* stack LIMIT: the stack that each call of the C library needs, in bytes: it runs on a stack of its own, of 16,384 bytes, that
+   was painted before, and the lowest byte that it wrote counts. Worst over random units, each with a start, a reset of all its banks,
    and a list of frames. To be linked with its symbols bound at once: the lazy binding of a first call would count too.
    The status is 1 where a call needs more than the limit, or no unit had 64 records. */
 #define _XOPEN_SOURCE 700
@@ -11,7 +11,7 @@
 #include <string.h>
 #include <ucontext.h>
 
-enum { STACK = 1 << 16, PAINT = 0xA5, UNITS = 400, FRAMES = 60, RESET_BANK = 0xFFFE11, ADDRESS = 5, GROUPS = 2 };
+enum { STACK = 1 << 14, PAINT = 0xA5, UNITS = 400, FRAMES = 60, RESET_BANK = 0xFFFE11, ADDRESS = 5, GROUPS = 2 };
 
 static uint8_t stack[STACK], records_in[64], records_out[32];
 static ucontext_t here, there;
@@ -78,18 +78,22 @@ enum { CALLS = sizeof calls / sizeof *calls };
 
 static void run_job(void) { job(); }
 
-/* Bytes of the painted stack that the job wrote to. */
+/* Bytes of the painted stack that the job wrote to; they are painted again. Most of it is passed eight bytes at a time. */
 static size_t depth(void (*what)(void))
 {
+    uint64_t eight;
     size_t left = 0;
-    memset(stack, PAINT, sizeof stack);
+    memset(&eight, PAINT, sizeof eight);
     job = what;
     getcontext(&there);
     there.uc_stack.ss_sp = stack, there.uc_stack.ss_size = sizeof stack, there.uc_link = &here;
     makecontext(&there, run_job, 0);
     swapcontext(&here, &there);
+    while (left < sizeof stack && memcmp(stack + left, &eight, sizeof eight) == 0)
+        left += sizeof eight;
     while (left < sizeof stack && stack[left] == PAINT)
         left++;
+    memset(stack + left, PAINT, sizeof stack - left);
     return sizeof stack - left;
 }
 
@@ -128,6 +132,7 @@ int main(int count, char **words)
 {
     size_t full = 0, least = 0, deepest = 0, limit = count == 2 ? strtoul(words[1], NULL, 10) : 0;
     begin(1);
+    memset(stack, PAINT, sizeof stack);
     for (uint32_t i = 0; i < UNITS; i++) {
         Plan plan = {{0}, 0, 0};
         make_lent(&lent, &kept);
