@@ -1,16 +1,18 @@
 -- The unit's own start and step, which the words are about.
 -- Assumes nothing.
 use Prim.Native.Nat.{ℕ}
-use mathlib.Core.Bool.{Bool, true, false}
+use mathlib.Core.Bool.{Bool, true, false, not, _&&_, _||_}
 use mathlib.Core.Path.{_≡_}
 use mathlib.Core.List.{List}
 use lib.ListN.{length}
+use lib.Dec.{eqb}
 use Rattle.laws.specs.Outcome.{Outcome}
 use Rattle.rooms.specs.declared.state.State.{State}
 use Rattle.rooms.specs.declared.reply.Stepped.{Stepped}
-use Rattle.entries.specs.Entry.{entries}
+use Rattle.entries.specs.Entry.{entries, entryAt, isBroken}
 use Rattle.tracing.specs.Trace.{Traced, tracedOf}
 use Rattle.tracing.specs.Run.{roomFor}
+use Rattle.showing.specs.declared.shown.Shown.{Shown}
 
 -- state and store are those that a start leaves
 pub record Begun (state : State) (store : List ℕ) (o : Outcome Stepped) : Type 0 where
@@ -26,7 +28,14 @@ pub record Taken (state : State) (store : List ℕ) (t : Traced) : Type 0 where
   pub state-is : state ≡ t .state
   pub store-is : store ≡ t .store
 
--- a record's step, where another record may follow; an end changes nothing
-pub record Next (more : Bool) (state : State) (store : List ℕ) (was : State) (before : List ℕ) (t : Traced) : Type 0 where
-  pub steps : more ≡ true → Taken state store t
-  pub ends : more ≡ false → (state ≡ was) × (store ≡ before)
+-- n bytes were read: a whole record, of known kind
+abbrev pub isRecord : List ℕ → ℕ → Bool
+isRecord bytes n = eqb n 8 && not (isBroken (entryAt bytes 0))
+
+-- a record's step, where n bytes are a record; else the end, which changes nothing. A capture that ends between two
+-- records is whole
+pub record Next (r : Shown) (store bytes : List ℕ) (n : ℕ) (was : State) (before : List ℕ) (t : Traced) : Type 0 where
+  pub more-is : r .more ≡ isRecord bytes n
+  pub whole-is : r .whole ≡ (isRecord bytes n || eqb n 0)
+  pub steps : r .more ≡ true → Taken (r .state) store t
+  pub ends : r .more ≡ false → (r .state ≡ was) × (store ≡ before)

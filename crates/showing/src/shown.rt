@@ -1,8 +1,9 @@
 // What a start, a record and a whole capture came to: a page of lines each, and where it ends.
 ghost use Prim.Native.Nat.{_≤_};
-ghost use mathlib.Core.Bool.{true, false};
+ghost use mathlib.Core.Bool.{true, false, not};
 ghost use mathlib.Core.Path.{_≡_};
 ghost use lib.ListN.{length};
+ghost use Rattle.entries.specs.Entry.{entryAt, isBroken};
 ghost use Rattle.showing.specs.Taken.{Taken, Next, oneOf};
 use crate::page::put_line;
 use crate::seen::seen_of;
@@ -75,7 +76,7 @@ fn show_record(
 ) -> Shown
     ensures takes { λ r. ⌜ Taken (r .state) (now (store .exit))
         (oneOf (now (map .entry)) (now (image .entry)) (now (store .entry)) was (now (bytes .entry))) ⌝ }
-    ensures within { λ r. ⌜ (r .end ≤ length (now (page .entry))) × (r .more ≡ true) ⌝ }
+    ensures within { λ r. ⌜ (r .end ≤ length (now (page .entry))) × (r .more ≡ true) × (r .whole ≡ true) ⌝ }
 {
     let seen = seen_of(store);
     let step = take_step(map, store, image, was, bytes);
@@ -91,7 +92,7 @@ fn show_record(
 
 // Nothing is shown of the end of a capture, nor of what stands there that is no record.
 fn show_end(state: State, whole: bool) -> Shown
-    ensures { λ r. ⌜ (r .state ≡ state) × (r .more ≡ false) × (r .end ≡ 0) ⌝ }
+    ensures { λ r. ⌜ (r .state ≡ state) × (r .more ≡ false) × (r .end ≡ 0) × (r .whole ≡ whole) ⌝ }
 {
     Shown {
         state: state,
@@ -101,7 +102,9 @@ fn show_end(state: State, whole: bool) -> Shown
     }
 }
 
-fn is_known(bytes: &[u8; 8]) -> bool {
+fn is_known(bytes: &[u8; 8]) -> bool
+    ensures { λ r. ⌜ r ≡ not (isBroken (entryAt (now (bytes .entry)) 0)) ⌝ }
+{
     !is_broken(entry_at(bytes, 0))
 }
 
@@ -115,7 +118,7 @@ pub fn show_next(
     n: usize,
     page: &mut [u8],
 ) -> Shown
-    ensures next { λ r. ⌜ Next (r .more) (r .state) (now (store .exit)) was (now (store .entry))
+    ensures next { λ r. ⌜ Next r (now (store .exit)) (now (bytes .entry)) n was (now (store .entry))
         (oneOf (now (map .entry)) (now (image .entry)) (now (store .entry)) was (now (bytes .entry))) ⌝ }
     ensures within { λ r. ⌜ r .end ≤ length (now (page .entry)) ⌝ }
 {
