@@ -38,7 +38,7 @@
 #include <stdint.h>
 
 /* The interface counts up where a call, an answer or the state's bytes change; then you compile anew. */
-#define MF_INTERFACE 2
+#define MF_INTERFACE 3
 #define MF_VERSION "1.0"
 #define MF_VERSION_MAJOR 1
 #define MF_VERSION_MINOR 0
@@ -84,7 +84,7 @@ enum { MF_RECORD_FRAME = 0, MF_RECORD_POWER_ON = 1 };
 /* Kinds of message. An event of scheme s is MF_EVENT + s. */
 enum { MF_COMMAND = 0, MF_SPECIAL = 1, MF_EVENT = 2, MF_POWER_CYCLE = 7 };
 
-/* Schemes of an event, by their two fields; and the scheme as shipped, which is 0. */
+/* Schemes of an event, by their two fields; and the scheme as shipped, which is 2 (before interface 3: 0). */
 enum {
     MF_TYPE_AND_NUMBER = 0,
     MF_SHORT_AND_TYPE = 1,
@@ -288,7 +288,7 @@ uint64_t mf_read(uint32_t frame);
 uint32_t mf_write(uint64_t word);
 
 /* An event. Type and number 0..31, primary group 0..31 or 255, short address 0..63 or 255, 32 group bits, information
- * 0..1023, scheme 0..4, or 255 for as shipped. A scheme whose field is missing falls back to 0.
+ * 0..1023, scheme 0..4, or 255 for as shipped, which is 2. A scheme whose field is missing falls back to 0.
  * 6: a field is out of range, also one that the scheme does not use. */
 uint32_t mf_compose_event(uint32_t type, uint32_t number, uint32_t primary, uint32_t short_address, uint32_t groups,
                           uint32_t information, uint32_t scheme);

@@ -383,15 +383,16 @@ static bool within_or_none(uint32_t number, uint32_t limit)
     return number <= limit || number == 255;
 }
 
-/* A scheme whose field is missing (255, or no group) falls back to 0. */
+/* 255 is "as shipped", which is 2. A scheme whose field is missing (255, or
+   no group) falls back to 0. */
 static uint32_t scheme_in_use(uint32_t scheme, uint32_t primary,
                               uint32_t short_address, uint32_t groups)
 {
-    bool missing = scheme == 255 /* "as shipped", which is 0 */
-                   || ((scheme == 1 || scheme == 2) && short_address == 255)
-                   || (scheme == 3 && groups == 0)
-                   || (scheme == 4 && primary == 255);
-    return missing ? 0 : scheme;
+    uint32_t meant = scheme == 255 ? 2 : scheme;
+    bool missing = ((meant == 1 || meant == 2) && short_address == 255)
+                   || (meant == 3 && groups == 0)
+                   || (meant == 4 && primary == 255);
+    return missing ? 0 : meant;
 }
 
 uint32_t second_compose_event(uint32_t type, uint32_t number, uint32_t primary,

@@ -296,8 +296,8 @@ static void composer_ranges(void)
     expect(second_compose_event(0, 0, 0, 0, 0, 0, 254) == six, "scheme 254");
     expect(second_compose_power(64, 0) == six, "power, short 64");
     expect(second_compose_power(256, 0) == six, "power, short 256");
-    expect(second_compose_event(1, 2, 0, 0, 1, 5, 255) == 0x82880500,
-           "as shipped is 0");
+    expect(second_compose_event(1, 2, 0, 0, 1, 5, 0) == 0x82880500,
+           "scheme 0 is type and number");
     expect(second_compose_event(1, 2, 0, 255, 1, 5, 1) == 0x82880500,
            "scheme 1 falls back");
     expect(second_compose_event(1, 2, 0, 255, 1, 5, 2) == 0x82880500,
@@ -307,6 +307,33 @@ static void composer_ranges(void)
     expect(second_compose_event(1, 2, 255, 0, 1, 5, 4) == 0x82880500,
            "scheme 4 falls back");
     expect(second_compose_power(63, 1u << 31) == 0xFEFFFF00, "highest power");
+}
+
+/* 255 is "as shipped", which is 2: short address and number. Type 1, number 2,
+   primary group 7, short address 9 and device group 3 give each of the schemes
+   0 to 4 a frame of its own. */
+static void as_shipped(void)
+{
+    unsigned unlike = 0;
+    expect(second_compose_event(1, 2, 7, 9, 1u << 3, 5, 255) == 0x12880500,
+           "as shipped is 2");
+    expect(second_compose_event(1, 2, 7, 63, 1u << 3, 5, 255) == 0x7E880500,
+           "as shipped, short 63");
+    expect(second_compose_event(1, 2, 7, 0, 1u << 3, 5, 255) == 0x00880500,
+           "as shipped, short 0");
+    expect(second_compose_event(1, 2, 7, 255, 1u << 3, 5, 255) == 0x82880500,
+           "as shipped falls back to 0");
+    expect(second_compose_event(1, 2, 7, 64, 1u << 3, 5, 255) == 6,
+           "as shipped, short 64");
+    expect(second_compose_event(32, 2, 7, 9, 1u << 3, 5, 255) == 6,
+           "as shipped, type 32");
+    for (uint32_t address = 0; address <= 255; address++) {
+        if (second_compose_event(1, 2, 7, address, 1u << 3, 5, 255)
+            != second_compose_event(1, 2, 7, address, 1u << 3, 5, 2)) {
+            unlike++;
+        }
+    }
+    expect(unlike == 0, "as shipped is 2 whatever the short address");
 }
 
 /* ---- map, store, reset image ---- */
@@ -1192,7 +1219,7 @@ int main(void)
 {
     static void (*const groups_of_checks[])(void) = {
         bench_reader, bench_composer, bench_writing, read_and_write,
-        writer_ranges, composer_ranges, check_fields, check_places,
+        writer_ranges, composer_ranges, as_shipped, check_fields, check_places,
         check_lengths, check_bank_rules, check_order, look_calls, start_calls,
         power_on_calls, idle_state_rules, waiting_state_rules,
         staged_state_rules, latched_state_rules, order_of_step, packed_states,

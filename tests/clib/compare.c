@@ -65,6 +65,7 @@ enum Seen {
     NEW_ADDRESS, NEW_GROUPS,
     RUN_WHOLE, RUN_OF_NONE, RUN_BY_ROOM, RUN_ENDED,
     START_NOT_CUT, LOOK_NOT_CUT,
+    SHIPPED_WITH_ADDRESS, SHIPPED_WITHOUT_ADDRESS,
     SEEN
 };
 
@@ -95,6 +96,8 @@ static const char *const seen_names[SEEN] = {
     [RUN_ENDED] = "runs that 13 ended",
     [START_NOT_CUT] = "starts with an address over 255, refused by 6",
     [LOOK_NOT_CUT] = "looks at a value by a bank or location over 255, refused by 14",
+    [SHIPPED_WITH_ADDRESS] = "events composed as shipped, with a short address",
+    [SHIPPED_WITHOUT_ADDRESS] = "events composed as shipped, without a short address",
 };
 
 static uint64_t seen[SEEN];
@@ -411,6 +414,9 @@ static void compose(void) {
     uint32_t ours = mf_compose_event(sort, number, primary, address, groups, information, scheme);
     same(EVENT_COMPOSER, ours, second_compose_event(sort, number, primary, address, groups, information, scheme),
          mf_number(ours));
+    bool shipped = scheme == MF_AS_SHIPPED && mf_number(ours) == MF_OK;
+    see(SHIPPED_WITH_ADDRESS, shipped && address != MF_NO_ADDRESS);
+    see(SHIPPED_WITHOUT_ADDRESS, shipped && address == MF_NO_ADDRESS);
     ours = mf_compose_power(address, groups);
     same(POWER_COMPOSER, ours, second_compose_power(address, groups), mf_number(ours));
 }

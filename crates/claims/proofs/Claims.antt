@@ -8,8 +8,8 @@ use Rattle.frames.proofs.Exactly.{exactly as frames-exactly}
 use Rattle.frames.proofs.Settled.{settled as frames-settled}
 use Rattle.words.proofs.Worded.{word-gives, gives-word, word-refused, low-byte as words-low-byte}
 use Rattle.words.proofs.Settled.{settled as words-settled}
-use Rattle.composing.proofs.Composed.{composes, carries, falls-back, composes-power, lowest, composer-numbers}
-use Rattle.composing.proofs.Composed.{power-numbers}
+use Rattle.composing.proofs.Composed.{composes, as-shipped, carries, falls-back, composes-power, lowest}
+use Rattle.composing.proofs.Composed.{composer-numbers, power-numbers}
 use Rattle.composing.proofs.Exactly.{exactly as composing-exactly}
 use Rattle.composing.proofs.Bench.{sheet-holds as composing-sheet-holds}
 use Rattle.composing.proofs.Settled.{settled as composing-settled}
@@ -88,6 +88,7 @@ frames = record {
   fourteen-reserved = reserved-14;
   fifty-nine-reserved = reserved-59;
   events-are-composed = composes;
+  as-shipped = as-shipped;
   schemes-carry = carries;
   missing-field-falls-back = falls-back;
   power-events-are-composed = composes-power;

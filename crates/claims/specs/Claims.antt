@@ -10,7 +10,8 @@ use Rattle.frames.specs.Promises.{WritesBack, ReadsBack, OneMessage, WritingsFi
 use Rattle.frames.specs.Promises.{Settled as FramesSettled}
 use Rattle.frames.specs.Refusals.{Reserved14, Reserved59, ReaderNumbers, WriterNumbers, Exactly as FramesExactly}
 use Rattle.words.specs.Promises.{WordGives, GivesWord, WordRefused, LowByte as WordsLowByte, Settled as WordsSettled}
-use Rattle.composing.specs.Promises.{Composes, Carries, FallsBack, ComposesPower, Lowest, Settled as ComposingSettled}
+use Rattle.composing.specs.Promises.{Composes, AsShipped, Carries, FallsBack, ComposesPower, Lowest}
+use Rattle.composing.specs.Promises.{Settled as ComposingSettled}
 use Rattle.composing.specs.Refusals.{ComposerNumbers, PowerNumbers, Exactly as ComposingExactly}
 use Rattle.composing.specs.Bench.{SheetHolds as ComposingSheetHolds}
 use Rattle.composing.specs.Cases.{ComposeCases}
@@ -75,6 +76,9 @@ pub record Frames : Type 0 where
   pub fifty-nine-reserved : Reserved59
   -- "Composing an event": what is in range is a frame, and reads back as the event of its scheme
   pub events-are-composed : Composes
+  -- "255 for "as shipped"", which is 2 by paper 02, Item 8: "255 becomes 2. Without a short address it falls back to 0
+  -- as before"
+  pub as-shipped : AsShipped
   -- "Scheme 0 type and number; 1 short address and type; 2 short address and number; 3 lowest device group and type; 4
   -- primary group and type"
   pub schemes-carry : Carries

@@ -5,7 +5,7 @@ use mathlib.Core.Bool.{Bool, true, false, _||_}
 use Prim.Native.Nat.{ℕ, _+_, _-_, _^_, _/_, _%_, _<_}
 use native.Mathlib.Omega.{arith}
 use lib.Dec.{ltb, eqb}
-use borrow.Author.Tests.{lt-ltb, ltb-true, eqb-true}
+use borrow.Author.Tests.{lt-ltb, ltb-true, eqb-true, ne-eqb}
 use Rattle.laws.specs.Bits.{bits}
 use Rattle.laws.specs.Numbers.{firstFailing}
 use Rattle.laws.proofs.Tests.{if-by, if-eq, both}
@@ -20,7 +20,7 @@ use Rattle.frames.proofs.Round.{written, reads-back, write-not-0}
 use Rattle.composing.specs.Compose.{orMissing, sourceFits, shippedOf, orBlank, lowestGroup, firstCarried}
 use Rattle.composing.specs.Compose.{secondCarried, eventWith, eventBy, composeOf, powerFits, powerBy}
 use Rattle.composing.specs.Compose.{composePowerOf}
-use Rattle.composing.specs.Promises.{Composes, Carries, FallsBack, ComposesPower, Lowest}
+use Rattle.composing.specs.Promises.{Composes, Carries, byScheme, FallsBack, AsShipped, ComposesPower, Lowest}
 use Rattle.composing.specs.Refusals.{composerTests, ComposerNumbers, powerEventTests, PowerNumbers}
 use Rattle.composing.specs.declared.source.Source.{Source}
 
@@ -125,6 +125,24 @@ carries e s first p q = simp (p, q)
 pub falls-back : FallsBack
 unfolding eventBy shippedOf schemeAt
 falls-back e p = simp p
+
+-- as shipped the event is that of scheme 2, by what the short address is
+shipped-event : (e : Source) → eventBy (byScheme 255 e) ≡ eventBy (byScheme 2 e)
+unfolding eventBy shippedOf schemeAt
+shipped-event e = go (orBlank (e .short))
+  where
+    go : (x : Field) → eventWith x Scheme.ShortNumber (byScheme 255 e) ≡ eventWith x Scheme.ShortNumber (byScheme 2 e)
+    go Field.Blank = refl
+    go (Field.Holds v) = refl
+
+pub as-shipped : AsShipped
+unfolding orMissing sourceFits orBlank shippedOf schemeAt eventBy composeOf
+as-shipped =
+    record {
+      is-scheme-2 = λ e. simp (shipped-event e);
+      with-address = λ e n. simp (ne-eqb (e .short) 255 n);
+      without-address = λ e p. simp p;
+    }
 
 power-written : (short groups : ℕ) → powerFits short groups ≡ true →
     writeOf (powerBy short groups) ≡ Writing.Frame (frameOf (powerBy short groups))

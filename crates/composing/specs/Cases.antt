@@ -30,10 +30,13 @@ composeCases =
     ∷ gives (from 2 1 2 3 4 (2 ^ 5) 6) 0x088806
     ∷ gives (from 3 1 2 3 4 (2 ^ 5) 6) 0x8A0406
     ∷ gives (from 4 1 2 3 4 (2 ^ 5) 6) 0xC60406
-    -- scheme 0..4, or 255 for "as shipped", which is 0
+    -- scheme 0..4, or 255 for "as shipped", which is 2; without a short address it falls back to 0
     ∷ refused (from 5 1 2 3 4 (2 ^ 5) 6)
     ∷ refused (from 254 1 2 3 4 (2 ^ 5) 6)
-    ∷ gives (from 255 1 2 3 4 (2 ^ 5) 6) 0x828806
+    ∷ gives (from 255 1 2 3 4 (2 ^ 5) 6) 0x088806
+    ∷ gives (from 255 1 2 3 63 (2 ^ 5) 6) 0x7E8806
+    ∷ refused (from 255 1 2 3 64 (2 ^ 5) 6)
+    ∷ gives (from 255 1 2 3 255 (2 ^ 5) 6) 0x828806
     -- type, number 0..31
     ∷ gives (from 0 31 2 3 4 (2 ^ 5) 6) 0xBE8806
     ∷ refused (from 0 32 2 3 4 (2 ^ 5) 6)

@@ -28,9 +28,9 @@ sourceFits e =
     && (ltb (e .groups) (2 ^ 32)
     && (ltb (e .information) 1024 && orMissing (e .scheme) 5)))))
 
--- 255 for "as shipped", which is 0
+-- 255 for "as shipped": "255 becomes 2" (paper 02, Item 8)
 unfoldable pub shippedOf : ℕ → ℕ
-shippedOf scheme = if eqb scheme 255 then 0 else scheme
+shippedOf scheme = if eqb scheme 255 then 2 else scheme
 
 -- 255: the field is missing
 unfoldable pub orBlank : ℕ → Field

@@ -46,7 +46,17 @@ abbrev pub FallsBack : Type 0
 FallsBack = (e : Source) → firstCarried (schemeAt (shippedOf (e .scheme))) e ≡ Field.Blank →
     eventBy e ≡ eventBy (byScheme 0 e)
 
--- the same of a power event
+-- 255 for "as shipped", of every source, a refused one too (paper 02, Item 8)
+pub record AsShipped : Type 0 where
+  -- "255 becomes 2"
+  pub is-scheme-2 : (e : Source) → composeOf (byScheme 255 e) ≡ composeOf (byScheme 2 e)
+  -- "the node wants device and instance number"
+  pub with-address : (e : Source) → (e .short ≡ 255 → ⊥) →
+      eventBy (byScheme 255 e) ≡ Message.Event Scheme.ShortNumber (e .short) (e .number) (e .information)
+  -- "Without a short address it falls back to 0 as before"
+  pub without-address : (e : Source) → e .short ≡ 255 → composeOf (byScheme 255 e) ≡ composeOf (byScheme 0 e)
+
+-- a power event that is composed in range is a frame too, and reads back
 abbrev pub ComposesPower : Type 0
 ComposesPower = (short groups : ℕ) → powerFits short groups ≡ true →
     (f : ℕ) × (composePowerOf short groups ≡ Writing.Frame f) × (readOf f ≡ Reading.Got (powerBy short groups))

@@ -46,7 +46,7 @@ fn shipped(scheme: u8) -> u8
     ensures { λ r. ⌜ r ≡ shippedOf scheme ⌝ }
 {
     if scheme == 255 {
-        return 0;
+        return 2;
     }
     scheme
 }
