@@ -59,7 +59,10 @@ static void do_look(void)
 
 static void do_read(void) { word = mf_read(frame); }
 static void do_write(void) { mf_write(word); }
-static void do_compose_event(void) { mf_compose_event(1, 2, 3, 4, frame, 5, frame % 5); }
+static void do_compose_event(void)
+{
+    mf_compose_event(1, 2, 3, frame & 0x100 ? 4 : MF_NO_ADDRESS, frame, 5, frame % 6 < 5 ? frame % 6 : MF_AS_SHIPPED);
+}
 static void do_compose_power(void) { mf_compose_power(frame % 64, frame); }
 
 static struct {

@@ -135,12 +135,17 @@ shipped-event e = go (orBlank (e .short))
     go Field.Blank = refl
     go (Field.Holds v) = refl
 
+-- a field that is not missing holds its number
+held : (x : ℕ) → (x ≡ 255 → ⊥) → orBlank x ≡ Field.Holds x
+unfolding orBlank
+held x n = simp (ne-eqb x 255 n)
+
 pub as-shipped : AsShipped
 unfolding orMissing sourceFits orBlank shippedOf schemeAt eventBy composeOf
 as-shipped =
     record {
       is-scheme-2 = λ e. simp (shipped-event e);
-      with-address = λ e n. simp (ne-eqb (e .short) 255 n);
+      with-address = λ e n. carries (byScheme 255 e) Scheme.ShortNumber (e .short) refl (held (e .short) n);
       without-address = λ e p. simp p;
     }
 
