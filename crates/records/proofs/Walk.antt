@@ -7,19 +7,15 @@ use mathlib.Core.Bool.{Bool, true, false, not}
 use mathlib.Core.List.{List, [], _∷_, Memᴰ·cast}
 use native.Mathlib.Omega.{arith}
 use native.Mathlib.Nat.{zero-add}
-use borrow.Author.Tests.{eq-eqb, ne-eqb}
 use lib.ListN.{length}
 use Rattle.laws.specs.Lists.{items, every}
 use Rattle.laws.proofs.Items.{items-start, items-end, items-cons}
 use Rattle.laws.proofs.Sides.{failed, passed}
 use Rattle.laws.proofs.Members.{items-member}
-use Rattle.records.specs.Map.{recordAt, recordsOf, mapped}
+use Rattle.records.specs.Map.{recordAt, recordsOf}
 use Rattle.records.specs.Order.{before, risingFrom, rising}
-use Rattle.records.specs.Lookup.{holds, holder}
 use Rattle.records.specs.Facts.{Member}
 use Rattle.records.specs.declared.record.Record.{Record}
-use Rattle.records.specs.declared.holder.Found.{Found}
-use Rattle.records.specs.declared.holder.Found.the-variants.{At}
 
 -- of a map of n records, those from number i on
 abbrev pub from : List ℕ → ℕ → ℕ → List Record
@@ -62,32 +58,6 @@ module _ (map : List ℕ) {n i : ℕ} where
         → not b ≡ false
         → x ≡ risingFrom r (from map n (i + 1))
     rising-goes-on p v h e t k = v ∙ ap (risingFrom p) (next map n i h r e) ∙ rw (passed t k)
-
-  -- a bank's records
-  module _ {x : Bool} {r : Record} (bank : ℕ) where
-    pub mapped-stops : x ≡ mapped (from map n i) bank → i < n → r ≡ recordAt map i → r .bank ≡ bank → true ≡ x
-    mapped-stops v h e t =
-        sym (v ∙ ap (λ (l : List Record). mapped l bank) (next map n i h r e) ∙ rw (eq-eqb (r .bank) bank t))
-
-    pub mapped-goes-on : x ≡ mapped (from map n i) bank → i < n → r ≡ recordAt map i → (r .bank ≡ bank → ⊥)
-        → x ≡ mapped (from map n (i + 1)) bank
-    mapped-goes-on v h e t =
-        v ∙ ap (λ (l : List Record). mapped l bank) (next map n i h r e) ∙ rw (ne-eqb (r .bank) bank t)
-
-  -- the record that holds a location
-  module _ {x : Found} {b : Bool} {r : Record} (bank location : ℕ) where
-    pub holder-stops : x ≡ holder (from map n i) bank location → i < n → r ≡ recordAt map i
-        → b ≡ holds r bank location → b ≡ true → At r ≡ x
-    unfolding holder
-    holder-stops v h e t k =
-        sym (v ∙ ap (λ (l : List Record). holder l bank location) (next map n i h r e) ∙ rw (sym t ∙ k))
-
-    pub holder-goes-on : x ≡ holder (from map n i) bank location → i < n → r ≡ recordAt map i
-        → b ≡ holds r bank location → b ≡ false
-        → x ≡ holder (from map n (i + 1)) bank location
-    unfolding holder
-    holder-goes-on v h e t k =
-        v ∙ ap (λ (l : List Record). holder l bank location) (next map n i h r e) ∙ rw (sym t ∙ k)
 
 pub rising-starts : (map : List ℕ) (n : ℕ) → n ≡ length map / 8 → (n ≡ 0 → ⊥) → (r : Record) → r ≡ recordAt map 0
     → rising (recordsOf map) ≡ risingFrom r (from map n 1)

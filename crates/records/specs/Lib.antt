@@ -1,7 +1,9 @@
 pub mod Map
 pub mod Order
 pub mod Lookup
+pub mod Halving
 pub mod Facts
 pub mod Promises
 pub mod Bench
 pub mod Cases
+pub mod HalvingCases

@@ -4,13 +4,14 @@ use mathlib.Core.Path.{_≡_}
 use mathlib.Core.Logic.{_↔_}
 use mathlib.Core.Bool.{true, false}
 use mathlib.Core.List.{List}
-use Prim.Native.Nat.{ℕ, _/_, _<_}
+use Prim.Native.Nat.{ℕ, _/_, _≤_, _<_}
 use lib.ListN.{length}
 use Rattle.laws.specs.Numbers.{Given}
 use Rattle.laws.specs.Settled.{Settles}
 use Rattle.records.specs.Map.{recordAt, recordsOf, mapped}
 use Rattle.records.specs.Order.{ordered, orderTests, orderNumber}
 use Rattle.records.specs.Lookup.{holds, holder, beginner}
+use Rattle.records.specs.Halving.{Sought, visits, visitsOf, halved, halvedBank}
 use Rattle.records.specs.Facts.{Member, FieldsHold, Before, Holds}
 use Rattle.records.specs.declared.record.Record.{Record}
 use Rattle.records.specs.declared.holder.Beginning.the-variants.{Begins}
@@ -63,6 +64,24 @@ abbrev pub MappedMember : Type 0
 MappedMember =
     (map : List ℕ) (bank : ℕ)
     → (mapped (recordsOf map) bank ≡ true) ↔ ((r : Record) × Member r map × (r .bank ≡ bank))
+
+-- Halving. Paper 02, Item 3: every answer stays what it was.
+
+-- halving finds what the walk finds
+abbrev pub HalvingFinds : Type 0
+HalvingFinds =
+    (map : List ℕ) → ordered map ≡ true → (bank location : ℕ)
+    → halved map bank location ≡ holder (recordsOf map) bank location
+
+-- and a bank where the walk finds it
+abbrev pub HalvingMaps : Type 0
+HalvingMaps = (map : List ℕ) → ordered map ≡ true → (bank : ℕ) → halvedBank map bank ≡ mapped (recordsOf map) bank
+
+-- more fuel than records changes nothing
+abbrev pub MoreFuel : Type 0
+MoreFuel =
+    (map : List ℕ) (sought : Sought) (fuel : ℕ) → length map / 8 ≤ fuel
+    → visits map sought fuel 0 (length map / 8) ≡ visitsOf map sought
 
 -- What the public call promises of its result r; answers that meet the same promise are equal.
 

@@ -1,9 +1,11 @@
 // Which record holds a location, and which value begins there.
 ghost use mathlib.Core.Path.{_≡_};
 ghost use mathlib.Core.Bool.{true};
+ghost use Prim.Native.Nat.{_≤_};
 ghost use Rattle.records.specs.Map.{recordsOf, mapped};
 ghost use Rattle.records.specs.Order.{ordered};
 ghost use Rattle.records.specs.Lookup.{holds, holder, beginner};
+ghost use Rattle.records.specs.Halving.{atLocation, middle, halved, halvedBank};
 use crate::record::Record;
 use crate::record::locations_end;
 use crate::record::record_at;
@@ -27,21 +29,69 @@ fn holds_location(r: Record, bank: u8, location: u8) -> bool
     (r.bank == bank) & ((r.first <= location) & ((location as usize) < end))
 }
 
+// The bank and location lie left of the record's own.
+fn lies_left(r: Record, bank: u8, location: u8) -> bool
+    ensures { λ b. ⌜ b ≡ atLocation bank location .left r ⌝ }
+{
+    (bank < r.bank) | ((bank == r.bank) & (location < r.first))
+}
+
+// Internal: the middle of the positions from low up to high, high left out.
+fn middle_of(low: usize, high: usize) -> usize
+    requires { ⌜ low ≤ high ⌝ }
+    ensures { λ m. ⌜ m ≡ middle low high ⌝ }
+{
+    low + (high - low) / 2
+}
+
+// Halving, of any map.
+fn halve(map: &[u8], bank: u8, location: u8) -> Found
+    ensures { λ r. ⌜ r ≡ halved (now (map .entry)) bank location ⌝ }
+{
+    let mut low = 0;
+    let mut high = records(map);
+    while low < high {
+        let m = middle_of(low, high);
+        let r = record_at(map, m);
+        if holds_location(r, bank, location) {
+            return Found::At(r);
+        }
+        if lies_left(r, bank, location) {
+            high = m;
+        } else {
+            low = m + 1;
+        }
+    }
+    Found::Nothing
+}
+
+// Halving by the bank alone, of any map.
+fn halve_bank(map: &[u8], bank: u8) -> bool
+    ensures { λ b. ⌜ b ≡ halvedBank (now (map .entry)) bank ⌝ }
+{
+    let mut low = 0;
+    let mut high = records(map);
+    while low < high {
+        let middle = middle_of(low, high);
+        let r = record_at(map, middle);
+        if r.bank == bank {
+            return true;
+        }
+        if bank < r.bank {
+            high = middle;
+        } else {
+            low = middle + 1;
+        }
+    }
+    false
+}
+
 // Internal: the record that holds the location. The map has passed 7, 8 and 9.
 pub fn lookup(map: &[u8], bank: u8, location: u8) -> Found
     requires { ⌜ ordered (now map) ≡ true ⌝ }
     ensures { λ r. ⌜ r ≡ holder (recordsOf (now (map .entry))) bank location ⌝ }
 {
-    let n = records(map);
-    let mut i = 0;
-    while i < n {
-        let r = record_at(map, i);
-        if holds_location(r, bank, location) {
-            return Found::At(r);
-        }
-        i += 1;
-    }
-    Found::Nothing
+    halve(map, bank, location)
 }
 
 // Internal: the value that begins at the bank and location. The map has passed 7, 8 and 9.
@@ -64,14 +114,5 @@ pub fn is_mapped(map: &[u8], bank: u8) -> bool
     requires { ⌜ ordered (now map) ≡ true ⌝ }
     ensures { λ b. ⌜ b ≡ mapped (recordsOf (now (map .entry))) bank ⌝ }
 {
-    let n = records(map);
-    let mut i = 0;
-    while i < n {
-        let r = record_at(map, i);
-        if r.bank == bank {
-            return true;
-        }
-        i += 1;
-    }
-    false
+    halve_bank(map, bank)
 }

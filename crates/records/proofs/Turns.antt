@@ -1,0 +1,167 @@
+-- The turns of a search by halving, as the code makes them: of the records that it visits between low and high, those that
+-- are left. Each law turns the invariant, with what a turn learns, into what the turn has to show.
+-- Assumes nothing.
+use Prim.Native.Nat.{ℕ, zero, suc, _+_, _≤_, _<_, _-_, _/_}
+use mathlib.Core.Path.{_≡_, refl, ap, sym, _∙_}
+use mathlib.Core.Bool.{Bool, true, false}
+use mathlib.Core.List.{List, [], _∷_, map as each}
+use native.Mathlib.Omega.{arith}
+use borrow.Author.Tests.{lt-ltb, le-ltb, eq-eqb, ne-eqb}
+use lib.ListN.{length}
+use Rattle.laws.specs.Choice.{if_then_else_}
+use Rattle.laws.proofs.Tests.{if-lt}
+use Rattle.records.specs.Map.{recordAt, mapped}
+use Rattle.records.specs.Lookup.{holds, holder}
+use Rattle.records.specs.Halving.{Sought, atLocation, inBank, middle, visits, visitsOf, visited, halved, halvedBank}
+use Rattle.records.specs.Promises.{MoreFuel}
+use Rattle.records.specs.declared.record.Record.{Record}
+use Rattle.records.specs.declared.holder.Found.{Found}
+use Rattle.records.specs.declared.holder.Found.the-variants.{At, Nothing}
+
+module _ (map : List ℕ) (s : Sought) where
+  -- behind a record: nothing, what the left half gives, or what the right half gives
+  abbrev rest : Record → List ℕ → List ℕ → List ℕ
+  rest r left right = if s .here r then [] else if s .left r then left else right
+
+  -- the middle of low and high, and what is behind it
+  abbrev from-middle : ℕ → ℕ → List ℕ → List ℕ → List ℕ
+  from-middle low high left right = middle low high ∷ rest (recordAt map (middle low high)) left right
+
+  ends : (fuel low high : ℕ) → high ≤ low → visits map s fuel low high ≡ []
+  unfolding visits
+  ends zero low high h = refl
+  ends (suc fuel) low high h = rw (le-ltb low high h)
+
+  goes : (fuel low high : ℕ) → low < high
+      → visits map s (suc fuel) low high
+      ≡ from-middle low high (visits map s fuel low (middle low high)) (visits map s fuel (middle low high + 1) high)
+  unfolding visits
+  goes fuel low high h = rw (lt-ltb low high h)
+
+  -- more fuel than positions changes nothing
+  pub enough : (a b low high : ℕ) → high - low ≤ a → high - low ≤ b → visits map s a low high ≡ visits map s b low high
+  unfolding visits
+  enough zero b low high h k = sym (ends b low high (omega arith))
+  enough (suc a) zero low high h k = ends (suc a) low high (omega arith)
+  enough (suc a) (suc b) low high h k =
+      let m = middle low high in
+      if-lt (λ (l : List ℕ). l ≡ visits map s (suc b) low high) low high
+      (λ lt.
+      ap (λ (l : List ℕ). from-middle low high l (visits map s a (m + 1) high))
+      (enough a b low m (omega arith) (omega arith))
+      ∙ ap (λ (l : List ℕ). from-middle low high (visits map s b low m) l)
+      (enough a b (m + 1) high (omega arith) (omega arith))
+      ∙ sym (goes b low high lt))
+      (λ ge. sym (ends (suc b) low high ge))
+
+  -- the positions visited of those from low up to high, by the rule without fuel
+  abbrev pub between : ℕ → ℕ → List ℕ
+  between low high = visits map s (high - low) low high
+
+  pub between-ends : (low high : ℕ) → high ≤ low → between low high ≡ []
+  between-ends low high h = ends (high - low) low high h
+
+  pub between-goes : (low high : ℕ) → low < high
+      → between low high ≡ from-middle low high (between low (middle low high)) (between (middle low high + 1) high)
+  between-goes low high h =
+      let m = middle low high in
+      let fuel = high - low - 1 in
+      enough (high - low) (suc fuel) low high (omega arith) (omega arith) ∙ goes fuel low high h
+      ∙ ap (λ (l : List ℕ). from-middle low high l (visits map s fuel (m + 1) high))
+      (enough fuel (m - low) low m (omega arith) (omega arith))
+      ∙ ap (λ (l : List ℕ). from-middle low high (between low m) l)
+      (enough fuel (high - (m + 1)) (m + 1) high (omega arith) (omega arith))
+
+  -- the records there
+  abbrev pub seen : ℕ → ℕ → List Record
+  seen low high = each (recordAt map) (between low high)
+
+  pub seen-start : (n : ℕ) → n ≡ length map / 8 → each (recordAt map) (visitsOf map s) ≡ seen 0 n
+  seen-start n e =
+      rw e (ap (each (recordAt map)) (enough (length map / 8) (length map / 8 - 0) 0 (length map / 8) (omega arith) (omega arith)))
+
+  pub seen-end : (low high : ℕ) → high ≤ low → seen low high ≡ []
+  seen-end low high h = ap (each (recordAt map)) (between-ends low high h)
+
+  module _ {low high m : ℕ} {r : Record} (lt : low < high) (e : m ≡ middle low high) (q : r ≡ recordAt map m) where
+    turned : seen low high ≡ r ∷ each (recordAt map) (rest r (between low m) (between (m + 1) high))
+    turned = ap (each (recordAt map)) (between-goes low high lt) ∙ rw (q, e)
+
+    pub seen-here : s .here r ≡ true → seen low high ≡ r ∷ []
+    seen-here t = turned ∙ rw t
+
+    pub seen-left : s .here r ≡ false → s .left r ≡ true → seen low high ≡ r ∷ seen low m
+    seen-left t u = turned ∙ rw (t, u)
+
+    pub seen-right : s .here r ≡ false → s .left r ≡ false → seen low high ≡ r ∷ seen (m + 1) high
+    seen-right t u = turned ∙ rw (t, u)
+
+pub more-fuel : MoreFuel
+more-fuel map sought fuel h = enough map sought fuel (length map / 8) 0 (length map / 8) (omega arith) (omega arith)
+
+-- the record that holds a location
+abbrev pub holder-between : List ℕ → ℕ → ℕ → ℕ → ℕ → Found
+holder-between map bank location low high = holder (seen map (atLocation bank location) low high) bank location
+
+pub holder-starts : (map : List ℕ) (bank location n : ℕ) → n ≡ length map / 8
+    → halved map bank location ≡ holder-between map bank location 0 n
+unfolding halved visited
+holder-starts map bank location n e =
+    ap (λ (l : List Record). holder l bank location) (seen-start map (atLocation bank location) n e)
+
+pub holder-ends : (map : List ℕ) (bank location low high : ℕ) → high ≤ low
+    → holder-between map bank location low high ≡ Nothing
+unfolding holder
+holder-ends map bank location low high h = rw (seen-end map (atLocation bank location) low high h)
+
+module _ (map : List ℕ) (bank location : ℕ) {x : Found} {low high m : ℕ} {r : Record} where
+  pub holder-here : x ≡ holder-between map bank location low high → low < high → m ≡ middle low high → r ≡ recordAt map m
+      → holds r bank location ≡ true
+      → At r ≡ x
+  unfolding holder
+  holder-here v lt e q t = sym (v ∙ rw (seen-here map (atLocation bank location) lt e q t, t))
+
+  pub holder-left : x ≡ holder-between map bank location low high → low < high → m ≡ middle low high → r ≡ recordAt map m
+      → holds r bank location ≡ false → atLocation bank location .left r ≡ true
+      → x ≡ holder-between map bank location low m
+  unfolding holder
+  holder-left v lt e q t u = v ∙ rw (seen-left map (atLocation bank location) lt e q t u, t)
+
+  pub holder-right : x ≡ holder-between map bank location low high → low < high → m ≡ middle low high → r ≡ recordAt map m
+      → holds r bank location ≡ false → atLocation bank location .left r ≡ false
+      → x ≡ holder-between map bank location (m + 1) high
+  unfolding holder
+  holder-right v lt e q t u = v ∙ rw (seen-right map (atLocation bank location) lt e q t u, t)
+
+-- a bank's records
+abbrev pub mapped-between : List ℕ → ℕ → ℕ → ℕ → Bool
+mapped-between map bank low high = mapped (seen map (inBank bank) low high) bank
+
+pub mapped-starts : (map : List ℕ) (bank n : ℕ) → n ≡ length map / 8 → halvedBank map bank ≡ mapped-between map bank 0 n
+unfolding halvedBank
+mapped-starts map bank n e = ap (λ (l : List Record). mapped l bank) (seen-start map (inBank bank) n e)
+
+pub mapped-ends : (map : List ℕ) (bank low high : ℕ) → high ≤ low → mapped-between map bank low high ≡ false
+mapped-ends map bank low high h = rw (seen-end map (inBank bank) low high h)
+
+module _ (map : List ℕ) (bank : ℕ) {x : Bool} {low high m : ℕ} {r : Record} where
+  pub mapped-here : x ≡ mapped-between map bank low high → low < high → m ≡ middle low high → r ≡ recordAt map m
+      → r .bank ≡ bank
+      → true ≡ x
+  mapped-here v lt e q t =
+      let here = eq-eqb (r .bank) bank t in
+      sym (v ∙ rw (seen-here map (inBank bank) lt e q here, here))
+
+  pub mapped-left : x ≡ mapped-between map bank low high → low < high → m ≡ middle low high → r ≡ recordAt map m
+      → (r .bank ≡ bank → ⊥) → bank < r .bank
+      → x ≡ mapped-between map bank low m
+  mapped-left v lt e q t u =
+      let other = ne-eqb (r .bank) bank t in
+      v ∙ rw (seen-left map (inBank bank) lt e q other (lt-ltb bank (r .bank) u), other)
+
+  pub mapped-right : x ≡ mapped-between map bank low high → low < high → m ≡ middle low high → r ≡ recordAt map m
+      → (r .bank ≡ bank → ⊥) → r .bank ≤ bank
+      → x ≡ mapped-between map bank (m + 1) high
+  mapped-right v lt e q t u =
+      let other = ne-eqb (r .bank) bank t in
+      v ∙ rw (seen-right map (inBank bank) lt e q other (le-ltb bank (r .bank) u), other)

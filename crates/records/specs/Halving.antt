@@ -1,0 +1,62 @@
+-- Look-up by halving, and the positions that it visits. Paper 02, Item 3.
+-- Assumes nothing.
+use Prim.Native.Nat.{ℕ, zero, suc, _+_, _-_, _/_}
+use mathlib.Core.Bool.{Bool, _&&_, _||_}
+use mathlib.Core.List.{List, [], _∷_, map as each}
+use lib.Dec.{ltb, eqb}
+use lib.ListN.{length}
+use Rattle.laws.specs.Choice.{if_then_else_}
+use Rattle.records.specs.Map.{recordAt, mapped}
+use Rattle.records.specs.Lookup.{holds, holder}
+use Rattle.records.specs.declared.record.Record.{Record}
+use Rattle.records.specs.declared.holder.Found.{Found}
+
+-- what is sought, against a record: it is here, or on the left; else on the right
+pub record Sought : Type 0 where
+  pub here : Record → Bool
+  pub left : Record → Bool
+
+-- a location: here if the record holds it; left or right by (bank, location) against the record's bank and first location
+abbrev pub atLocation : ℕ → ℕ → Sought
+atLocation bank location =
+    record {
+      here = λ r. holds r bank location;
+      left = λ r. ltb bank (r .bank) || (eqb bank (r .bank) && ltb location (r .first));
+    }
+
+-- a bank: here if the record has that bank; left or right by the bank alone
+abbrev pub inBank : ℕ → Sought
+inBank bank = record { here = λ r. eqb (r .bank) bank; left = λ r. ltb bank (r .bank) }
+
+-- of the positions from low up to high, high left out, the middle one
+abbrev pub middle : ℕ → ℕ → ℕ
+middle low high = low + (high - low) / 2
+
+-- The halving rule: the positions that it visits, of those from low up to high, high left out. The middle one; then none, if
+-- what is sought is here; else those of the left half, up to the middle, or those of the right half, from behind it.
+unfoldable pub visits : List ℕ → Sought → ℕ → ℕ → ℕ → List ℕ
+visits map sought zero low high = []
+visits map sought (suc fuel) low high =
+    let m = middle low high in
+    let r = recordAt map m in
+    let rest =
+    if sought .here r then []
+    else if sought .left r then visits map sought fuel low m
+    else visits map sought fuel (m + 1) high in
+    if ltb low high then m ∷ rest else []
+
+-- of a whole map, with as much fuel as it has records
+abbrev pub visitsOf : List ℕ → Sought → List ℕ
+visitsOf map sought = visits map sought (length map / 8) 0 (length map / 8)
+
+-- the positions of the records that a look-up visits, in order
+unfoldable pub visited : List ℕ → ℕ → ℕ → List ℕ
+visited map bank location = visitsOf map (atLocation bank location)
+
+-- what halving finds: of the records that it visits, the one that holds the location
+unfoldable pub halved : List ℕ → ℕ → ℕ → Found
+halved map bank location = holder (each (recordAt map) (visited map bank location)) bank location
+
+-- whether it finds a bank: some record that it visits has that bank
+unfoldable pub halvedBank : List ℕ → ℕ → Bool
+halvedBank map bank = mapped (each (recordAt map) (visitsOf map (inBank bank))) bank
