@@ -2,7 +2,6 @@
 -- Assumes nothing.
 use borrow.Author.Needs.{needs}
 use Prim.Native.Nat.{_-_, _≤_}
-use native.Mathlib.Omega.{arith}
 use Rattle.seek.proofs.seek_bank.Statement.{statement}
 use Rattle.seek.proofs.seek_bank.Tie as tie
 
