@@ -8,24 +8,19 @@ use mathlib.Core.List.{List, [], _∷_, map as each}
 use native.Mathlib.Omega.{arith}
 use borrow.Author.Tests.{lt-ltb, le-ltb, eq-eqb, ne-eqb}
 use lib.ListN.{length}
-use Rattle.laws.specs.Choice.{if_then_else_}
 use Rattle.laws.proofs.Tests.{if-lt}
 use Rattle.records.specs.Map.{recordAt, mapped}
 use Rattle.records.specs.Lookup.{holds, holder}
-use Rattle.records.specs.Halving.{Sought, atLocation, inBank, middle, visits, visitsOf, visited, halved, halvedBank}
+use Rattle.records.specs.Halving.{Sought, atLocation, inBank, middle, after, visits, visitsOf, visited, halved, halvedBank}
 use Rattle.records.specs.Promises.{MoreFuel}
 use Rattle.records.specs.declared.record.Record.{Record}
 use Rattle.records.specs.declared.holder.Found.{Found}
 use Rattle.records.specs.declared.holder.Found.the-variants.{At, Nothing}
 
 module _ (map : List ℕ) (s : Sought) where
-  -- behind a record: nothing, what the left half gives, or what the right half gives
-  abbrev rest : Record → List ℕ → List ℕ → List ℕ
-  rest r left right = if s .here r then [] else if s .left r then left else right
-
-  -- the middle of low and high, and what is behind it
+  -- the middle of low and high, and what comes after it
   abbrev from-middle : ℕ → ℕ → List ℕ → List ℕ → List ℕ
-  from-middle low high left right = middle low high ∷ rest (recordAt map (middle low high)) left right
+  from-middle low high left right = middle low high ∷ after s (recordAt map (middle low high)) left right
 
   ends : (fuel low high : ℕ) → high ≤ low → visits map s fuel low high ≡ []
   unfolding visits
@@ -84,7 +79,7 @@ module _ (map : List ℕ) (s : Sought) where
   seen-end low high h = ap (each (recordAt map)) (between-ends low high h)
 
   module _ {low high m : ℕ} {r : Record} (lt : low < high) (e : m ≡ middle low high) (q : r ≡ recordAt map m) where
-    turned : seen low high ≡ r ∷ each (recordAt map) (rest r (between low m) (between (m + 1) high))
+    turned : seen low high ≡ r ∷ each (recordAt map) (after s r (between low m) (between (m + 1) high))
     turned = ap (each (recordAt map)) (between-goes low high lt) ∙ rw (q, e)
 
     pub seen-here : s .here r ≡ true → seen low high ≡ r ∷ []

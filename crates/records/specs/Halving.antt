@@ -32,17 +32,19 @@ inBank bank = record { here = λ r. eqb (r .bank) bank; left = λ r. ltb bank (r
 abbrev pub middle : ℕ → ℕ → ℕ
 middle low high = low + (high - low) / 2
 
--- The halving rule: the positions that it visits, of those from low up to high, high left out. The middle one; then none, if
--- what is sought is here; else those of the left half, up to the middle, or those of the right half, from behind it.
+-- after a record: nothing, if what is sought is here; else what the left half gives, or what the right half gives
+abbrev pub after : Sought → Record → List ℕ → List ℕ → List ℕ
+after sought r left right = if sought .here r then [] else if sought .left r then left else right
+
+-- The halving rule: the positions that it visits, of those from low up to high, high left out: none, or the middle one and
+-- what comes after it. The left half goes up to the middle, which is left out; the right half begins one later.
 unfoldable pub visits : List ℕ → Sought → ℕ → ℕ → ℕ → List ℕ
 visits map sought zero low high = []
 visits map sought (suc fuel) low high =
     let m = middle low high in
-    let r = recordAt map m in
-    let rest =
-    if sought .here r then []
-    else if sought .left r then visits map sought fuel low m
-    else visits map sought fuel (m + 1) high in
+    let left = visits map sought fuel low m in
+    let right = visits map sought fuel (m + 1) high in
+    let rest = after sought (recordAt map m) left right in
     if ltb low high then m ∷ rest else []
 
 -- of a whole map, with as much fuel as it has records
