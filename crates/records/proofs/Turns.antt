@@ -6,7 +6,8 @@ use mathlib.Core.Path.{_≡_, refl, ap, sym, _∙_}
 use mathlib.Core.Bool.{Bool, true, false}
 use mathlib.Core.List.{List, [], _∷_, map as each}
 use native.Mathlib.Omega.{arith}
-use borrow.Author.Tests.{lt-ltb, le-ltb, eq-eqb, ne-eqb}
+use borrow.Author.Tests.{lt-ltb, le-ltb}
+use lib.Dec.{eqb}
 use lib.ListN.{length}
 use Rattle.laws.proofs.Tests.{if-lt}
 use Rattle.records.specs.Map.{recordAt, mapped}
@@ -94,69 +95,63 @@ module _ (map : List ℕ) (s : Sought) where
 pub more-fuel : MoreFuel
 more-fuel map sought fuel h = enough map sought fuel (length map / 8) 0 (length map / 8) (omega arith) (omega arith)
 
+-- An answer over the records visited, which a record that is not what is sought leaves as it was: a turn of the search.
+module _ (map : List ℕ) (s : Sought) {A : Type 0} (f : List Record → A)
+    (skips : (r : Record) (rs : List Record) → s .here r ≡ false → f (r ∷ rs) ≡ f rs)
+    {x : A} {low high m : ℕ} {r : Record} where
+  pub stops : x ≡ f (seen map s low high) → low < high → m ≡ middle low high → r ≡ recordAt map m → s .here r ≡ true
+      → f (r ∷ []) ≡ x
+  stops v lt e q t = sym (v ∙ ap f (seen-here map s lt e q t))
+
+  pub goes-left : x ≡ f (seen map s low high) → low < high → m ≡ middle low high → r ≡ recordAt map m
+      → s .here r ≡ false → s .left r ≡ true
+      → x ≡ f (seen map s low m)
+  goes-left v lt e q t u = v ∙ ap f (seen-left map s lt e q t u) ∙ skips r _ t
+
+  pub goes-right : x ≡ f (seen map s low high) → low < high → m ≡ middle low high → r ≡ recordAt map m
+      → s .here r ≡ false → s .left r ≡ false
+      → x ≡ f (seen map s (m + 1) high)
+  goes-right v lt e q t u = v ∙ ap f (seen-right map s lt e q t u) ∙ skips r _ t
+
 -- the record that holds a location
-abbrev pub holder-between : List ℕ → ℕ → ℕ → ℕ → ℕ → Found
-holder-between map bank location low high = holder (seen map (atLocation bank location) low high) bank location
+abbrev pub holder-in : ℕ → ℕ → List Record → Found
+holder-in bank location rs = holder rs bank location
+
+pub holder-skips : (bank location : ℕ) (r : Record) (rs : List Record) → holds r bank location ≡ false
+    → holder-in bank location (r ∷ rs) ≡ holder-in bank location rs
+unfolding holder
+holder-skips bank location r rs t = rw t
+
+pub holder-has : (bank location : ℕ) (r : Record) → holds r bank location ≡ true → At r ≡ holder-in bank location (r ∷ [])
+unfolding holder
+holder-has bank location r t = rw t
 
 pub holder-starts : (map : List ℕ) (bank location n : ℕ) → n ≡ length map / 8
-    → halved map bank location ≡ holder-between map bank location 0 n
+    → halved map bank location ≡ holder-in bank location (seen map (atLocation bank location) 0 n)
 unfolding halved visited
-holder-starts map bank location n e =
-    ap (λ (l : List Record). holder l bank location) (seen-start map (atLocation bank location) n e)
+holder-starts map bank location n e = ap (holder-in bank location) (seen-start map (atLocation bank location) n e)
 
 pub holder-ends : (map : List ℕ) (bank location low high : ℕ) → high ≤ low
-    → holder-between map bank location low high ≡ Nothing
+    → holder-in bank location (seen map (atLocation bank location) low high) ≡ Nothing
 unfolding holder
 holder-ends map bank location low high h = rw (seen-end map (atLocation bank location) low high h)
 
-module _ (map : List ℕ) (bank location : ℕ) {x : Found} {low high m : ℕ} {r : Record} where
-  pub holder-here : x ≡ holder-between map bank location low high → low < high → m ≡ middle low high → r ≡ recordAt map m
-      → holds r bank location ≡ true
-      → At r ≡ x
-  unfolding holder
-  holder-here v lt e q t = sym (v ∙ rw (seen-here map (atLocation bank location) lt e q t, t))
-
-  pub holder-left : x ≡ holder-between map bank location low high → low < high → m ≡ middle low high → r ≡ recordAt map m
-      → holds r bank location ≡ false → atLocation bank location .left r ≡ true
-      → x ≡ holder-between map bank location low m
-  unfolding holder
-  holder-left v lt e q t u = v ∙ rw (seen-left map (atLocation bank location) lt e q t u, t)
-
-  pub holder-right : x ≡ holder-between map bank location low high → low < high → m ≡ middle low high → r ≡ recordAt map m
-      → holds r bank location ≡ false → atLocation bank location .left r ≡ false
-      → x ≡ holder-between map bank location (m + 1) high
-  unfolding holder
-  holder-right v lt e q t u = v ∙ rw (seen-right map (atLocation bank location) lt e q t u, t)
-
 -- a bank's records
-abbrev pub mapped-between : List ℕ → ℕ → ℕ → ℕ → Bool
-mapped-between map bank low high = mapped (seen map (inBank bank) low high) bank
+abbrev pub mapped-in : ℕ → List Record → Bool
+mapped-in bank rs = mapped rs bank
 
-pub mapped-starts : (map : List ℕ) (bank n : ℕ) → n ≡ length map / 8 → halvedBank map bank ≡ mapped-between map bank 0 n
+pub mapped-skips : (bank : ℕ) (r : Record) (rs : List Record) → eqb (r .bank) bank ≡ false
+    → mapped-in bank (r ∷ rs) ≡ mapped-in bank rs
+mapped-skips bank r rs t = rw t
+
+pub mapped-has : (bank : ℕ) (r : Record) → eqb (r .bank) bank ≡ true → true ≡ mapped-in bank (r ∷ [])
+mapped-has bank r t = rw t
+
+pub mapped-starts : (map : List ℕ) (bank n : ℕ) → n ≡ length map / 8
+    → halvedBank map bank ≡ mapped-in bank (seen map (inBank bank) 0 n)
 unfolding halvedBank
-mapped-starts map bank n e = ap (λ (l : List Record). mapped l bank) (seen-start map (inBank bank) n e)
+mapped-starts map bank n e = ap (mapped-in bank) (seen-start map (inBank bank) n e)
 
-pub mapped-ends : (map : List ℕ) (bank low high : ℕ) → high ≤ low → mapped-between map bank low high ≡ false
+pub mapped-ends : (map : List ℕ) (bank low high : ℕ) → high ≤ low
+    → mapped-in bank (seen map (inBank bank) low high) ≡ false
 mapped-ends map bank low high h = rw (seen-end map (inBank bank) low high h)
-
-module _ (map : List ℕ) (bank : ℕ) {x : Bool} {low high m : ℕ} {r : Record} where
-  pub mapped-here : x ≡ mapped-between map bank low high → low < high → m ≡ middle low high → r ≡ recordAt map m
-      → r .bank ≡ bank
-      → true ≡ x
-  mapped-here v lt e q t =
-      let here = eq-eqb (r .bank) bank t in
-      sym (v ∙ rw (seen-here map (inBank bank) lt e q here, here))
-
-  pub mapped-left : x ≡ mapped-between map bank low high → low < high → m ≡ middle low high → r ≡ recordAt map m
-      → (r .bank ≡ bank → ⊥) → bank < r .bank
-      → x ≡ mapped-between map bank low m
-  mapped-left v lt e q t u =
-      let other = ne-eqb (r .bank) bank t in
-      v ∙ rw (seen-left map (inBank bank) lt e q other (lt-ltb bank (r .bank) u), other)
-
-  pub mapped-right : x ≡ mapped-between map bank low high → low < high → m ≡ middle low high → r ≡ recordAt map m
-      → (r .bank ≡ bank → ⊥) → r .bank ≤ bank
-      → x ≡ mapped-between map bank (m + 1) high
-  mapped-right v lt e q t u =
-      let other = ne-eqb (r .bank) bank t in
-      v ∙ rw (seen-right map (inBank bank) lt e q other (le-ltb bank (r .bank) u), other)
