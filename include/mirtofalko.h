@@ -1,10 +1,10 @@
 /* Mirtofalko: settings in lighting units (IEC 62386-103), for C99 and later and for C++11 and later.
  *
  *   State of a unit   96 bytes
- *   Stack             at most 2,048 bytes for any call. Measured on x86-64: mf_check 88, mf_start 296, mf_frame 944,
- *                     mf_power_on 880, mf_run 1568, mf_look 120, mf_read 288, mf_write 40, mf_compose_event 56,
+ *   Stack             at most 2,048 bytes for any call. Measured on x86-64: mf_check 128, mf_start 336, mf_frame 944,
+ *                     mf_power_on 880, mf_run 1568, mf_look 160, mf_find 80, mf_read 288, mf_write 40, mf_compose_event 56,
  *                     mf_compose_power 24 bytes
- *   Code              about 21,800 bytes with its constants on x86-64
+ *   Code              about 22,300 bytes with its constants on x86-64
  *   Needs             memcpy, and nothing else: no heap, no file, no initialisation
  *   Re-entrant        every call: it keeps nothing of its own, and it returns. One unit is stepped by one thread at a
  *                     time; different units, and calls without a unit, need no lock between them
@@ -19,7 +19,7 @@
  * `mf_unit` (below) holds them side by side, so that a call names the unit only.
  *
  * Every call is proved: for all inputs its answer, the state and the store are what the definitions say. The
- * definitions stand in crates/faces/specs.
+ * definitions stand in crates/faces/specs, those of mf_find in crates/finds/specs.
  *
  * What no call can check, and you must see to:
  *   - Each pointer is good for as many bytes as the length beside it says, and is not null, also for the length 0.
@@ -38,7 +38,7 @@
 #include <stdint.h>
 
 /* The interface counts up where a call, an answer or the state's bytes change; then you compile anew. */
-#define MF_INTERFACE 3
+#define MF_INTERFACE 4
 #define MF_VERSION "1.0"
 #define MF_VERSION_MAJOR 1
 #define MF_VERSION_MINOR 0
@@ -56,7 +56,7 @@ enum {
     MF_BAD_INSTANCE_BYTE = 3,  /* reserved instance byte */
     MF_BAD_EVENT = 4,          /* reserved event */
     MF_BAD_BLANK_FIELD = 5,    /* power event with a non-zero blank field */
-    MF_BAD_FIELD = 6,          /* field out of range: writer, composer, start */
+    MF_BAD_FIELD = 6,          /* field out of range: writer, composer, start, find */
     MF_BAD_MAP_LENGTH = 7,     /* map not a multiple of 8 bytes, or over 512 */
     MF_BAD_RECORD = 8,         /* a record's own fields break the rules */
     MF_BAD_RECORD_ORDER = 9,   /* records out of order or overlapping */
@@ -147,6 +147,19 @@ static inline uint8_t mf_answer(uint32_t answer) { return (uint8_t)(answer >> 16
 static inline uint32_t mf_width(uint32_t look) { return look >> 8 & 0xFF; }
 static inline uint32_t mf_offset(uint32_t look) { return look >> 16; }
 
+/* Of mf_find: number | what << 8 | location << 16 | width << 24; the 32 bits above are 0 in this interface. mf_what is one
+ * of these. mf_place: of MF_FOUND the value's first location, of MF_HOLE the next mapped location in that bank, else 0.
+ * mf_place_width: of MF_FOUND the value's width, else 0. */
+enum {
+    MF_FOUND = 0,  /* a value holds the location */
+    MF_ABSENT = 1, /* no value lies in the bank */
+    MF_HOLE = 2,   /* no value holds it, and one follows in the bank */
+    MF_PAST = 3    /* every mapped location of the bank lies below */
+};
+static inline uint32_t mf_what(uint64_t find) { return (uint32_t)(find >> 8 & 0xFF); }
+static inline uint32_t mf_place(uint64_t find) { return (uint32_t)(find >> 16 & 0xFF); }
+static inline uint32_t mf_place_width(uint64_t find) { return (uint32_t)(find >> 24 & 0xFF); }
+
 /* Of mf_write, mf_compose_event, mf_compose_power: number | frame << 8. */
 static inline uint32_t mf_frame_of(uint32_t written) { return written >> 8; }
 
@@ -217,6 +230,11 @@ size_t mf_run(const uint8_t *map, size_t map_length, uint8_t *store, size_t stor
 uint32_t mf_look(const uint8_t *map, size_t map_length, const uint8_t *store, size_t store_length, uint32_t bank,
                  uint32_t location);
 
+/* Which value of the map holds the location, or why none does: the bank is absent, the location lies in a hole, or past the
+ * bank's last mapped location. The map alone decides; there is neither store nor image.
+ * 7, 8, 9, then 6 for a bank or location over 255. */
+uint64_t mf_find(const uint8_t *map, size_t map_length, uint32_t bank, uint32_t location);
+
 /* ---- the unit as one thing ----
  *
  * Begin with zeros (a static one has them) and set the parts by their names. A part that is null has to have the length
@@ -270,6 +288,10 @@ static inline size_t mf_unit_run(const mf_unit *unit, const uint8_t *records, si
 
 static inline uint32_t mf_unit_look(const mf_unit *unit, uint32_t bank, uint32_t location) {
     return mf_look(mf_lent(unit->map), unit->map_length, mf_lent(unit->store), unit->store_length, bank, location);
+}
+
+static inline uint64_t mf_unit_find(const mf_unit *unit, uint32_t bank, uint32_t location) {
+    return mf_find(mf_lent(unit->map), unit->map_length, bank, location);
 }
 
 /* The bytes that a look found, mf_width(look) of them. */

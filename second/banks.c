@@ -1,4 +1,4 @@
-/* Map, store, reset image: the tests 7 to 11, finding values, the look call. */
+/* Map, store, reset image: tests 7 to 11, finding values, look and find. */
 #include "banks.h"
 
 #include "unit.h"
@@ -151,6 +151,21 @@ static bool records_rise(const Lent *lent)
     return true;
 }
 
+/* 7 to 9, each over everything: the map alone. */
+static uint32_t check_map(const Lent *lent)
+{
+    if (lent->map_len % RECORD_BYTES != 0 || lent->map_len > MAP_LIMIT) {
+        return MAP_LENGTH;
+    }
+    if (!every_record_holds(lent)) {
+        return RECORD_FIELDS;
+    }
+    if (!records_rise(lent)) {
+        return RECORD_ORDER;
+    }
+    return 0;
+}
+
 static bool places_shared(const Value *one, const Value *other)
 {
     return one->offset < other->offset + other->width
@@ -241,14 +256,9 @@ static bool bank_rules_hold(const Lent *lent)
 /* 7 to 11, each over everything. The store is only read. */
 static uint32_t check_lent(const Lent *lent, size_t image_len)
 {
-    if (lent->map_len % RECORD_BYTES != 0 || lent->map_len > MAP_LIMIT) {
-        return MAP_LENGTH;
-    }
-    if (!every_record_holds(lent)) {
-        return RECORD_FIELDS;
-    }
-    if (!records_rise(lent)) {
-        return RECORD_ORDER;
+    uint32_t number = check_map(lent);
+    if (number != 0) {
+        return number;
     }
     if (lent->store_len != image_len || lent->store_len > STORE_LIMIT
         || !places_hold(lent)) {
@@ -281,4 +291,54 @@ uint32_t second_look(const uint8_t *map, size_t map_len, const uint8_t *store,
         return NO_VALUE;
     }
     return (uint32_t)value.width << 8 | (uint32_t)value.offset << 16;
+}
+
+/* The next mapped location in a bank, above one that no value holds: the first
+   location of the record that begins nearest above. False where none does. */
+static bool next_mapped(const Lent *lent, uint32_t bank, uint32_t location,
+                        uint8_t *next)
+{
+    bool above = false;
+    for (size_t i = 0; i < record_count(lent); i++) {
+        Value value = record_at(lent, i);
+        if (value.bank == bank && value.first > location
+            && (!above || value.first < *next)) {
+            *next = value.first;
+            above = true;
+        }
+    }
+    return above;
+}
+
+static uint64_t found_answer(uint32_t what, uint8_t location, uint8_t width)
+{
+    return (uint64_t)what << 8 | (uint64_t)location << 16
+           | (uint64_t)width << 24;
+}
+
+/* Bank absent, hole with the next mapped location in that bank, or past the
+   bank's last one. There is no store: 10 and 11 are not tested. */
+uint64_t second_find(const uint8_t *map, size_t map_len, uint32_t bank,
+                     uint32_t location)
+{
+    const Lent lent = {map, map_len, NULL, 0, NULL, NULL};
+    Value value;
+    uint8_t next = 0;
+    uint32_t number = check_map(&lent);
+    if (number != 0) {
+        return number;
+    }
+    if (bank > 0xFF || location > 0xFF) {
+        return FIELD_OUT_OF_RANGE;
+    }
+    if (value_holding(&lent, bank, location, &value)) {
+        return found_answer(FOUND, value.first, value.width);
+    }
+    if (!bank_mapped(&lent, (uint8_t)bank)) {
+        return found_answer(ABSENT, 0, 0);
+    }
+    if (next_mapped(&lent, bank, location, &next)) {
+        return found_answer(HOLE, next, 0);
+    }
+    return found_answer(PAST, 0, 0);
 }

@@ -462,6 +462,157 @@ static void look_calls(void)
     expect(look(&bench, 2, 4) == BANK_RULE, "look tests 11 before 14");
 }
 
+/* ---- the find call ---- */
+
+/* Two banks side by side; none of them has a record at 0x00. */
+static const uint8_t beside_map[] = {
+    4, 0x05, 2, 0, 0, 0, 0, 0, 4, 0x10, 1, 0, 0, 0, 0, 2,
+    5, 0x08, 1, 0, 0, 0, 0, 3, 5, 0xF7, 8, 0, 0, 0, 0, 4};
+
+/* An answer, from high to low: width, location, what, number. */
+static const uint64_t absent = 0x00000100;
+static const uint64_t past = 0x00000300;
+
+static uint64_t find(const Bench *bench, uint32_t bank, uint32_t location)
+{
+    return second_find(bench->map, bench->map_len, bank, location);
+}
+
+static void find_in_sheet(void)
+{
+    Bench bench = sheet_bench();
+    expect(find(&bench, 2, 0x00) == 0x01000000, "find 0x00");
+    expect(find(&bench, 2, 0x01) == 0x00020200, "a hole, the next is 0x02");
+    expect(find(&bench, 2, 0x02) == 0x01020000, "find 0x02");
+    expect(find(&bench, 2, 0x03) == 0x04030000, "find a first location");
+    expect(find(&bench, 2, 0x04) == 0x04030000, "find inside a value");
+    expect(find(&bench, 2, 0x05) == 0x04030000, "find further inside");
+    expect(find(&bench, 2, 0x06) == 0x04030000, "find a last location");
+    expect(find(&bench, 2, 0x07) == past, "past the bank's last one");
+    expect(find(&bench, 2, 0xFF) == past, "0xFF is past");
+    expect(find(&bench, 1, 0x00) == absent, "bank 1 is absent");
+    expect(find(&bench, 3, 0x03) == absent, "bank 3 is absent");
+    expect(find(&bench, 0, 0x02) == absent, "bank 0 is absent");
+    expect(find(&bench, 200, 0x00) == absent, "bank 200 is absent");
+    expect(find(&bench, 255, 0xFF) == absent, "bank 255 is absent");
+}
+
+static uint64_t find_beside(uint32_t bank, uint32_t location)
+{
+    return second_find(beside_map, sizeof beside_map, bank, location);
+}
+
+/* A hole names no record of another bank, and what follows in another bank is
+   past too. */
+static void find_beside_banks(void)
+{
+    expect(find_beside(4, 0x00) == 0x00050200, "a hole before all records");
+    expect(find_beside(4, 0x04) == 0x00050200, "just before all records");
+    expect(find_beside(4, 0x06) == 0x02050000, "inside the lower bank's value");
+    expect(find_beside(4, 0x07) == 0x00100200, "not the higher bank's 0x08");
+    expect(find_beside(4, 0x0F) == 0x00100200, "just before the bank's last");
+    expect(find_beside(4, 0x10) == 0x01100000, "the lower bank's last value");
+    expect(find_beside(4, 0x11) == past, "past, while a higher bank follows");
+    expect(find_beside(4, 0xFE) == past, "mapped in the higher bank only");
+    expect(find_beside(5, 0x00) == 0x00080200, "before the higher bank's all");
+    expect(find_beside(5, 0x05) == 0x00080200, "mapped in the lower bank only");
+    expect(find_beside(5, 0x09) == 0x00F70200, "a hole up to 0xF7");
+    expect(find_beside(5, 0xFE) == 0x08F70000, "the last location of all");
+    expect(find_beside(5, 0xFF) == past, "past the last location of all");
+    expect(find_beside(3, 0x05) == absent, "absent below");
+    expect(find_beside(6, 0x08) == absent, "absent above");
+}
+
+/* A place by a table of its bank's locations: the first location and the width
+   of the value at each. */
+static uint64_t find_by_table(const Bench *bench, uint8_t bank,
+                              uint8_t location)
+{
+    uint64_t first[256] = {0};
+    uint64_t width[256] = {0};
+    bool present = false;
+    for (const uint8_t *r = bench->map; r < bench->map + bench->map_len;
+         r += 8) {
+        for (unsigned i = 0; r[0] == bank && i < r[2]; i++) {
+            first[r[1] + i] = r[1];
+            width[r[1] + i] = r[2];
+            present = true;
+        }
+    }
+    if (!present) {
+        return absent;
+    }
+    if (width[location] != 0) {
+        return width[location] << 24 | first[location] << 16;
+    }
+    for (uint64_t next = location; next < 256; next++) {
+        if (width[next] != 0) {
+            return next << 16 | 0x200;
+        }
+    }
+    return past;
+}
+
+/* Every bank and location that a byte holds. */
+static unsigned places_unlike(const Bench *bench)
+{
+    unsigned unlike = 0;
+    for (unsigned bank = 0; bank < 256; bank++) {
+        for (unsigned location = 0; location < 256; location++) {
+            if (find(bench, bank, location)
+                != find_by_table(bench, (uint8_t)bank, (uint8_t)location)) {
+                unlike++;
+            }
+        }
+    }
+    return unlike;
+}
+
+static void find_every_place(void)
+{
+    Bench bench = sheet_bench();
+    expect(places_unlike(&bench) == 0, "every place of the bench sheet");
+    bench = wide_bench();
+    expect(places_unlike(&bench) == 0, "every place of three banks");
+    memcpy(bench.map, beside_map, sizeof beside_map);
+    bench.map_len = sizeof beside_map;
+    expect(places_unlike(&bench) == 0, "every place of banks side by side");
+    bench.map_len = 0;
+    expect(places_unlike(&bench) == 0, "every place of an empty map");
+    expect(second_find(NULL, 0, 0, 0) == absent, "an empty map has no bank");
+    expect(second_find(NULL, 0, 256, 0) == FIELD_OUT_OF_RANGE,
+           "bank 256 of an empty map");
+}
+
+/* 7 to 9, then 6. */
+static void find_refusals(void)
+{
+    static const uint8_t long_map[520] = {0};
+    Bench bench = wide_bench();
+    expect(find(&bench, 256, 0) == FIELD_OUT_OF_RANGE, "find in bank 256");
+    expect(find(&bench, 2, 256) == FIELD_OUT_OF_RANGE, "find at 256");
+    expect(find(&bench, 0x102, 3) == FIELD_OUT_OF_RANGE, "a bank not cut");
+    expect(find(&bench, 2, 0x103) == FIELD_OUT_OF_RANGE, "a location not cut");
+    expect(find(&bench, UINT32_MAX, UINT32_MAX) == FIELD_OUT_OF_RANGE,
+           "the largest of both");
+    bench.store[0] = 0;
+    bench.map[0 * 8 + 3] = 4;
+    bench.map[12 * 8 + 7] = 0;
+    expect(check(&bench) == STORE_PLACES && find(&bench, 9, 0xFD) == 0x02FD0000,
+           "10 and 11 are not tested");
+    bench.map[5 * 8 + 1] = 3;
+    expect(find(&bench, 2, 3) == RECORD_ORDER, "find: 9");
+    expect(find(&bench, 256, 3) == RECORD_ORDER, "find: 9 before 6");
+    bench.map[12 * 8 + 3] = 9;
+    expect(find(&bench, 2, 3) == RECORD_FIELDS, "find: 8 before 9");
+    expect(find(&bench, 2, 256) == RECORD_FIELDS, "find: 8 before 6");
+    bench.map_len--;
+    expect(find(&bench, 2, 3) == MAP_LENGTH, "find: 7 before 8");
+    expect(find(&bench, 256, 256) == MAP_LENGTH, "find: 7 before 6");
+    expect(second_find(long_map, 513, 0, 0) == MAP_LENGTH, "find: map of 513");
+    expect(second_find(long_map, 520, 0, 0) == MAP_LENGTH, "find: map of 520");
+}
+
 /* ---- state and clock ---- */
 
 static void start_calls(void)
@@ -1185,6 +1336,26 @@ static bool step_anything(Places *places)
            && (!places->accepted || result == FRAME_TOO_LARGE);
 }
 
+/* A find tests the map as all calls do, then 6, and a refusal is its number
+   alone. */
+static bool find_anything(const Places *places)
+{
+    uint32_t bank = any_number() % 260;
+    uint32_t location = any_number() % 260;
+    uint64_t answer =
+        second_find(places->map, places->map_len, bank, location);
+    uint32_t number =
+        second_check(places->map, places->map_len, places->store,
+                     places->store_len, places->store_len);
+    if (number >= MAP_LENGTH && number <= RECORD_ORDER) {
+        return answer == number;
+    }
+    if (bank > 255 || location > 255) {
+        return answer == FIELD_OUT_OF_RANGE;
+    }
+    return (answer & 0xFF) == 0 && answer >> 32 == 0;
+}
+
 static bool run_any_list(void)
 {
     Places places = {0};
@@ -1196,7 +1367,7 @@ static bool run_any_list(void)
     places.image = exact_copy(bench.image, bench.store_len);
     bool holds = true;
     for (unsigned i = 0; i < 12; i++) {
-        holds = step_anything(&places) && holds;
+        holds = step_anything(&places) && find_anything(&places) && holds;
     }
     free(places.map);
     free(places.store);
@@ -1212,7 +1383,8 @@ static void any_input(void)
             unlike++;
         }
     }
-    expect(unlike == 0, "any input: refusals leave all, states stay sound");
+    expect(unlike == 0,
+           "any input: refusals leave all, states stay sound, finds fit");
 }
 
 int main(void)
@@ -1220,8 +1392,9 @@ int main(void)
     static void (*const groups_of_checks[])(void) = {
         bench_reader, bench_composer, bench_writing, read_and_write,
         writer_ranges, composer_ranges, as_shipped, check_fields, check_places,
-        check_lengths, check_bank_rules, check_order, look_calls, start_calls,
-        power_on_calls, idle_state_rules, waiting_state_rules,
+        check_lengths, check_bank_rules, check_order, look_calls,
+        find_in_sheet, find_beside_banks, find_every_place, find_refusals,
+        start_calls, power_on_calls, idle_state_rules, waiting_state_rules,
         staged_state_rules, latched_state_rules, order_of_step, packed_states,
         pairs_from_the_left, frames_between_halves, what_keeps_write_enable,
         writes_not_executed, writes_not_taken, staging_again, locks,

@@ -39,6 +39,9 @@ enum { COMMAND = 0, SPECIAL = 1, EVENT = 2, POWER_CYCLE = 7 };
 /* Kinds of an address. */
 enum { SHORT_ADDRESS = 0, DEVICE_GROUP = 1, UNADDRESSED = 2, BROADCAST = 3 };
 
+/* What the find call says of a location. */
+enum { FOUND = 0, ABSENT = 1, HOLE = 2, PAST = 3 };
+
 /* State. Any numbers may be handed in; the rules of a state are tested. */
 typedef struct Unit {
     uint8_t address;                 /* short address (0..63 or 255) */
@@ -89,6 +92,16 @@ uint32_t second_check(const uint8_t *map, size_t map_len, const uint8_t *store,
    location that no byte holds has no value. */
 uint32_t second_look(const uint8_t *map, size_t map_len, const uint8_t *store,
                      size_t store_len, uint32_t bank, uint32_t location);
+
+/* The find call: number | what << 8 | location << 16 | width << 24, by what:
+     FOUND:  the first location and the width of the value that holds it
+     ABSENT: no record has that bank; 0, 0
+     HOLE:   the next mapped location in that bank; 0
+     PAST:   every mapped location of that bank lies below; 0, 0
+   It tests 7 to 9, then 6: a bank or location that no byte holds. A refusal is
+   its number alone. */
+uint64_t second_find(const uint8_t *map, size_t map_len, uint32_t bank,
+                     uint32_t location);
 
 /* Start, a later power-on, a frame step:
    number | answered << 8 | answer << 16. */

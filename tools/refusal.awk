@@ -1,10 +1,12 @@
 # The place of a refusal 6 to 11, as a sentence; status 1 where there is one. Records are counted from 1, as a person counts
-# them. On standard input each file: a line with its name and size, then its first bytes as numbers.
+# them. On standard input each file: a line with its name and size, then its first bytes as numbers. The map is called unit.map,
+# or what the variable `map` says.
+BEGIN { if (map == "") map = "unit.map" }
 function end_with(sentence, place) {
     print number ": " sentence (place == "" ? "" : ", " place)
     exit 1
 }
-function record(i) { return "record " (i + 1) " of unit.map (bytes " (8 * i) " to " (8 * i + 7) ")" }
+function record(i) { return "record " (i + 1) " of " map " (bytes " (8 * i) " to " (8 * i + 7) ")" }
 
 $1 ~ /^[a-z]/ { name = $1; size[name] = $2; next }
 { for (i = 1; i <= NF; i++) byte[name, count[name]++] = $i }
@@ -38,8 +40,8 @@ function address(    a) {
 }
 
 function length_of_map() {
-    if (size["map"] > 512) end_with("unit.map has " size["map"] " bytes, more than 512")
-    if (size["map"] % 8 != 0) end_with("unit.map has " size["map"] " bytes, not a multiple of 8")
+    if (size["map"] > 512) end_with(map " has " size["map"] " bytes, more than 512")
+    if (size["map"] % 8 != 0) end_with(map " has " size["map"] " bytes, not a multiple of 8")
 }
 
 function fields(    i) {

@@ -6,7 +6,7 @@
  * frames. Beside each step map, store, image or state are damaged in a copy, and the calls are tried on that. A refused
  * call must leave state and store as they were. Counted is how often each call was made, each number given, each damage
  * refused by its number, and each thing seen; what never came is a failure. The unit's calls are made by turns with all
- * that is lent to them, and over an mf_unit. */
+ * that is lent to them, and over an mf_unit. Of some maps every bank and location is tried. */
 #include "inputs.h"
 
 #include "unit.h"
@@ -18,7 +18,7 @@
 
 /* ---- counting ---- */
 
-enum Call { CHECK, LOOK, READ, WRITE, EVENT_COMPOSER, POWER_COMPOSER, START, STEP, POWER_ON, RUN, CALLS };
+enum Call { CHECK, LOOK, FIND, READ, WRITE, EVENT_COMPOSER, POWER_COMPOSER, START, STEP, POWER_ON, RUN, CALLS };
 
 static const struct {
     const char *name;
@@ -27,6 +27,7 @@ static const struct {
 } calls[CALLS] = {
     [CHECK] = {"mf_check", 0x0F81, false},
     [LOOK] = {"mf_look", 0x4F81, false},
+    [FIND] = {"mf_find", 0x03C1, false},
     [READ] = {"mf_read", 0x003F, false},
     [WRITE] = {"mf_write", 0x0041, false},
     [EVENT_COMPOSER] = {"mf_compose_event", 0x0041, false},
@@ -64,7 +65,9 @@ enum Seen {
     ANSWERED, STORED, STORED_WHOLE, RESET, WAITED, OPENED, CLOSED, STAGES, DROPPED, LATCHES, LATCH_ENDED,
     NEW_ADDRESS, NEW_GROUPS,
     RUN_WHOLE, RUN_OF_NONE, RUN_BY_ROOM, RUN_ENDED,
-    START_NOT_CUT, LOOK_NOT_CUT,
+    START_NOT_CUT, LOOK_NOT_CUT, FIND_BANK_NOT_CUT, FIND_LOCATION_NOT_CUT, FIND_MAP_FIRST,
+    FOUND_FIRST, FOUND_INSIDE, FOUND_ABSENT, FOUND_HOLE, HOLE_BEFORE_ALL, FOUND_PAST, PAST_BELOW_A_BANK,
+    FOUND_BY_MAP_ALONE, EVERY_PLACE,
     SHIPPED_WITH_ADDRESS, SHIPPED_WITHOUT_ADDRESS,
     SEEN
 };
@@ -96,6 +99,18 @@ static const char *const seen_names[SEEN] = {
     [RUN_ENDED] = "runs that 13 ended",
     [START_NOT_CUT] = "starts with an address over 255, refused by 6",
     [LOOK_NOT_CUT] = "looks at a value by a bank or location over 255, refused by 14",
+    [FIND_BANK_NOT_CUT] = "finds by a bank over 255, refused by 6",
+    [FIND_LOCATION_NOT_CUT] = "finds by a location over 255, refused by 6",
+    [FIND_MAP_FIRST] = "finds by a bank or location over 255, refused by 7 to 9",
+    [FOUND_FIRST] = "finds of a value at its first location",
+    [FOUND_INSIDE] = "finds of a value inside it",
+    [FOUND_ABSENT] = "finds in an absent bank",
+    [FOUND_HOLE] = "finds in a hole",
+    [HOLE_BEFORE_ALL] = "finds in a hole before all records of its bank",
+    [FOUND_PAST] = "finds past the bank's last location",
+    [PAST_BELOW_A_BANK] = "finds past the bank's last location, and a higher bank follows",
+    [FOUND_BY_MAP_ALONE] = "finds accepted where mf_check gives 10 or 11",
+    [EVERY_PLACE] = "finds at every bank and location of some maps",
     [SHIPPED_WITH_ADDRESS] = "events composed as shipped, with a short address",
     [SHIPPED_WITHOUT_ADDRESS] = "events composed as shipped, without a short address",
 };
@@ -125,6 +140,25 @@ static void see_frame(const Kept *before, const Kept *after, uint32_t answer) {
     see(STAGES, a[18] > b[18]), see(DROPPED, a[18] < b[18] && !stored);
     see(LATCHES, a[29] == 1 && memcmp(a + 29, b + 29, 11) != 0), see(LATCH_ENDED, a[29] < b[29]);
     see(NEW_ADDRESS, a[0] != b[0]), see(NEW_GROUPS, memcmp(a + 1, b + 1, 4) != 0);
+}
+
+/* By the answer, and by the map's records for what it does not say. */
+static void see_find(Lent *l, uint32_t bank, uint32_t at, uint64_t answer) {
+    uint32_t number = mf_number(answer), what = mf_what(answer);
+    bool before = false, higher = false;
+    see(FIND_BANK_NOT_CUT, bank > 255 && number == MF_BAD_FIELD);
+    see(FIND_LOCATION_NOT_CUT, bank <= 255 && at > 255 && number == MF_BAD_FIELD);
+    see(FIND_MAP_FIRST, (bank > 255 || at > 255) && number > MF_BAD_FIELD);
+    if (number != MF_OK) return;
+    for (size_t i = 0; i < records(l); i++) {
+        const uint8_t *r = record(l, i);
+        before |= r[0] == bank && r[1] < at, higher |= r[0] > bank;
+    }
+    see(FOUND_FIRST, what == MF_FOUND && mf_place(answer) == at);
+    see(FOUND_INSIDE, what == MF_FOUND && mf_place(answer) < at);
+    see(FOUND_ABSENT, what == MF_ABSENT);
+    see(FOUND_HOLE, what == MF_HOLE), see(HOLE_BEFORE_ALL, what == MF_HOLE && !before);
+    see(FOUND_PAST, what == MF_PAST), see(PAST_BELOW_A_BANK, what == MF_PAST && higher);
 }
 
 /* ---- the calls of the unit ---- */
@@ -239,6 +273,30 @@ static void look_call(Lent *l, Kept *kept) {
     expect_call(LOOK, "other bytes", mf_unit_bytes(&unit, ours) == kept->store + mf_offset(ours));
 }
 
+/* The answer that the header's names for its parts make. */
+static uint64_t answer_of_parts(uint64_t answer) {
+    return (uint64_t)mf_number(answer) | (uint64_t)mf_what(answer) << 8 | (uint64_t)mf_place(answer) << 16
+           | (uint64_t)mf_place_width(answer) << 24;
+}
+
+/* What makes a byte too large for one; often by the least that does. */
+static uint32_t too_large(void) { return once_in(2) ? 256 : any() << 8; }
+
+/* It answers the number. A bank and a location before, in or behind a value; now and then anywhere, or too large. */
+static uint32_t find_call(Lent *l, Kept *kept) {
+    const uint8_t *r = records(l) > 0 && !once_in(6) ? record(l, below((uint32_t)records(l))) : NULL;
+    uint32_t bank = r ? r[0] : once_in(3) ? byte() : below(20);
+    uint32_t at = r && !once_in(4) ? (r[1] + 255u + below(r[2] + 3u)) & 0xFF : once_in(2) ? byte() : below(4);
+    if (once_in(20)) bank |= too_large();
+    if (once_in(20)) at |= too_large();
+    const mf_unit unit = unit_of(l, kept);
+    uint64_t ours = once_in(2) ? mf_unit_find(&unit, bank, at) : mf_find(l->map, l->map_length, bank, at);
+    same(FIND, ours, second_find(l->map, l->map_length, bank, at), mf_number(ours));
+    expect_call(FIND, "its parts are not the answer", answer_of_parts(ours) == ours);
+    see_find(l, bank, at, ours);
+    return mf_number(ours);
+}
+
 /* ---- a run of records, against the second program's calls one after the other ---- */
 
 enum { RECORDS = 8, OUTPUT = 4 * RECORDS + 4 };
@@ -330,6 +388,8 @@ static void try_damaged(const Lent *lent, const Kept *kept, uint32_t clock, cons
     start_call(&other, &again, any_address());
     uint32_t checked = check_call(&other, &copy);
     look_call(&other, &copy);
+    uint32_t found = find_call(&other, &copy);
+    see(FOUND_BY_MAP_ALONE, (checked == MF_BAD_PLACES || checked == MF_BAD_BANK) && found == MF_OK);
     if (!done) return;
     damaged[which]++;
     if (damages[which].number == ANY_NUMBER) return;
@@ -355,11 +415,53 @@ static void session(uint32_t steps) {
         frame_call(&lent, &kept, frame, clock);
         if (once_in(50)) power_on_call(&lent, &kept);
         look_call(&lent, &kept);
+        find_call(&lent, &kept);
         if (once_in(25)) clock = make_records(&plan, &lent, &kept, clock, bytes), run_call(&lent, &kept, bytes);
         make_records(&aside, &lent, &kept, clock, bytes);
         try_damaged(&lent, &kept, clock, bytes);
     }
     expect_call(STEP, "map or image changed", memcmp(&lent, &lent_before, sizeof lent) == 0);
+}
+
+/* ---- every place of a map ---- */
+
+/* Every bank and location that a byte holds. The map keeps 7 to 9. */
+static void every_place(const char *whose, const Lent *l) {
+    expect(whose, "refused by mf_find", 0, mf_number(mf_find(l->map, l->map_length, 0, 0)) == MF_OK);
+    for (uint32_t place = 0; place < 65536; place++) {
+        uint64_t ours = mf_find(l->map, l->map_length, place >> 8, place & 255);
+        uint64_t theirs = second_find(l->map, l->map_length, place >> 8, place & 255);
+        expect(whose, "mf_find has another answer at 256 x bank + location", place, ours == theirs);
+        see(EVERY_PLACE, true);
+    }
+}
+
+/* 64 records, so many to a bank, before each a hole; each bank has them a location further on than the one below it. */
+static void make_64(Lent *l, uint32_t to_a_bank) {
+    l->map_length = 512;
+    for (uint32_t i = 0; i < 64; i++) {
+        uint32_t bank = 1 + 3 * (i / to_a_bank), first = 2 + 3 * (i % to_a_bank) + i / to_a_bank;
+        uint8_t fields[8] = {(uint8_t)bank, (uint8_t)first, (uint8_t)(1 + i % 2), 0, 0, 0, 0, 0};
+        memcpy(record(l, i), fields, 8);
+    }
+}
+
+/* Of the random maps every second one lacks a bank's record at 0x00, where a bank has more than that. */
+static void every_place_of_some(void) {
+    static const uint8_t sheet[24] = {2, 0, 1, 0, 0, 0, 0, 0, 2, 2, 1, 2, 0, 0, 0, 1, 2, 3, 4, 4, 1, 0, 0, 2};
+    static Lent lent;
+    static Kept kept;
+    every_place("an empty map", &lent);
+    memcpy(lent.map, sheet, sizeof sheet), lent.map_length = sizeof sheet;
+    every_place("the bench sheet's map", &lent);
+    make_64(&lent, 64), every_place("64 records of one bank", &lent);
+    make_64(&lent, 8), every_place("64 records of 8 banks", &lent);
+    make_64(&lent, 1), every_place("64 records of 64 banks", &lent);
+    for (uint32_t i = 0; i < 6; i++) {
+        make_lent(&lent, &kept);
+        if (i % 2 == 1) damage(NO_HEAD, &lent, &kept);
+        every_place("a random map", &lent);
+    }
 }
 
 /* ---- frames without a unit ---- */
@@ -456,6 +558,7 @@ int main(int argc, char **argv) {
     begin(seed);
     printf("seed %" PRIu64 "\n", seed);
     for (uint64_t i = 0; i < least; i += STEPS) session(STEPS);
+    every_place_of_some();
     for (uint64_t i = 0; i < least; i++) read_and_write(), compose();
     for (enum Call call = CHECK; call < CALLS; call++) show_call(call, least);
     printf("number and times a damage was tried and gave it\n");

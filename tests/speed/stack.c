@@ -57,6 +57,7 @@ static void do_look(void)
     mf_look(lent.map, lent.map_length, kept.store, lent.store_length, frame >> 8 & 0xFF, frame & 0xFF);
 }
 
+static void do_find(void) { mf_find(lent.map, lent.map_length, frame >> 8 & 0xFF, frame & 0xFF); }
 static void do_read(void) { word = mf_read(frame); }
 static void do_write(void) { mf_write(word); }
 static void do_compose_event(void)
@@ -73,7 +74,8 @@ static struct {
     {"mf_check", do_check, 0},           {"mf_start", do_start, 0},
     {"mf_frame", do_frame, 0},           {"mf_power_on", do_power_on, 0},
     {"mf_run", do_run, 0},               {"mf_look", do_look, 0},
-    {"mf_read", do_read, 0},             {"mf_write", do_write, 0},
+    {"mf_find", do_find, 0},             {"mf_read", do_read, 0},
+    {"mf_write", do_write, 0},
     {"mf_compose_event", do_compose_event, 0}, {"mf_compose_power", do_compose_power, 0},
 };
 

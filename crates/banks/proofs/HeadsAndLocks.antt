@@ -18,7 +18,8 @@ use Rattle.records.specs.Order.{ordered}
 use Rattle.records.specs.Lookup.{holds, holder}
 use Rattle.records.specs.Facts.{Member, Holds}
 use Rattle.records.specs.declared.record.Record.{Record}
-use Rattle.records.specs.declared.holder.Found.the-variants.{At, Nothing}
+use Rattle.records.specs.declared.holder.Found.the-variants.{At, Missing}
+use Rattle.records.specs.declared.holder.Why.{Why}
 use Rattle.records.proofs.Locations.{holds-is, is-holding, holder-at, holder-none, holder-hit, mapped-member}
 use Rattle.banks.specs.Rules.{isHead, isLock, bankHas, bankHolds, banksHold}
 use Rattle.banks.specs.Facts.{LockRecord}
@@ -64,12 +65,12 @@ module _ (such : Record → Bool) (location : ℕ) (single : Single such locatio
       some-of (λ x. eqb (x .bank) bank && such x) (recordsOf map) r (k .0)
       (and-of (eqb (r .bank) bank) (such r) (eq-eqb (r .bank) bank (holds-is r bank location (k .1) .same-bank)) t))
 
-  pub has-none : holder (recordsOf map) bank location ≡ Nothing → bankHas such (recordsOf map) bank ≡ false
-  has-none e =
+  pub has-none : (w : Why) → holder (recordsOf map) bank location ≡ Missing w → bankHas such (recordsOf map) bank ≡ false
+  has-none w e =
       same-test (bankHas such (recordsOf map) bank) false
       (λ t.
       let x = has-this t in
-      sym (holder-none bank location (recordsOf map) e (x .0) (x .1)) ∙ is-holding (x .0) bank location (x .2))
+      sym (holder-none bank location (recordsOf map) w e (x .0) (x .1)) ∙ is-holding (x .0) bank location (x .2))
       (λ t. absurd (false≢true t))
 
 lock-is : (map : List ℕ) (bank : ℕ) (r : Record) → Member r map → r .bank ≡ bank → isLock r ≡ true

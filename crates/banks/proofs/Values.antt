@@ -16,7 +16,7 @@ use Rattle.records.specs.Lookup.{holder}
 use Rattle.records.specs.Facts.{Member}
 use Rattle.records.specs.declared.record.Record.{Record}
 use Rattle.records.specs.declared.holder.Found.{Found}
-use Rattle.records.specs.declared.holder.Found.the-variants.{At, Nothing}
+use Rattle.records.specs.declared.holder.Found.the-variants.{At, Missing}
 use Rattle.records.proofs.Members.{member-fields}
 use Rattle.records.proofs.Locations.{holder-at}
 use Rattle.banks.specs.Rules.{placed, isHead, headByteHolds, headHolds, headBytesHold, checkNumber}
@@ -61,7 +61,7 @@ module _ (map store bytes : List ℕ) (r : Record) (p : placed map (length store
   locks bank n = go (holder (recordsOf map) bank 0x02) refl
     where
       go : (f : Found) → holder (recordsOf map) bank 0x02 ≡ f → byteAt (putValue r bytes store) f ≡ byteAt store f
-      go Nothing e = refl
+      go (Missing w) e = refl
       go (At l) e =
           let k = holder-at bank 0x02 (recordsOf map) l e .0 in
           let f = member-fields map (placed-ordered map (length store) p) l k in

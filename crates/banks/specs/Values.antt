@@ -7,7 +7,7 @@ use Rattle.laws.specs.Parts.{part, put}
 use Rattle.records.specs.Lookup.{holder}
 use Rattle.records.specs.declared.record.Record.{Record}
 use Rattle.records.specs.declared.holder.Found.{Found}
-use Rattle.records.specs.declared.holder.Found.the-variants.{At, Nothing}
+use Rattle.records.specs.declared.holder.Found.the-variants.{At, Missing}
 
 -- a value's bytes are its part of the store, from its offset on
 unfoldable pub valueOf : Record → List ℕ → List ℕ
@@ -24,7 +24,7 @@ padded value = value ++ replicate (8 - length value) 0
 -- the byte at the record's place; 0 where there is none
 unfoldable pub byteAt : List ℕ → Found → ℕ
 byteAt store (At r) = getD store (r .offset) 0
-byteAt store Nothing = 0
+byteAt store (Missing w) = 0
 
 -- a bank's lock byte: the stored byte at 0x02
 unfoldable pub lockByte : List Record → List ℕ → ℕ → ℕ

@@ -18,6 +18,6 @@ pub fn lock_byte(map: &[u8], store: &[u8], bank: u8) -> u8
             let at = r.offset as usize;
             store[at]
         }
-        Found::Nothing => 0,
+        Found::Missing(_) => 0,
     }
 }

@@ -123,7 +123,7 @@ fn has_head(map: &[u8], bank: u8) -> bool
 {
     match lookup(map, bank, 0x00) {
         Found::At(r) => is_head(r),
-        Found::Nothing => false,
+        Found::Missing(_) => false,
     }
 }
 
@@ -134,7 +134,7 @@ fn has_lock(map: &[u8], bank: u8) -> bool
 {
     match lookup(map, bank, 0x02) {
         Found::At(r) => is_lock(r),
-        Found::Nothing => false,
+        Found::Missing(_) => false,
     }
 }
 

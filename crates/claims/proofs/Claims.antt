@@ -15,12 +15,16 @@ use Rattle.composing.proofs.Bench.{sheet-holds as composing-sheet-holds}
 use Rattle.composing.proofs.Settled.{settled as composing-settled}
 use Rattle.composing.proofs.Cases.{compose-cases}
 use Rattle.records.proofs.Ordered.{order-stands, order-numbers, order-settled}
+use Rattle.records.proofs.Missing.{one-answer}
 use Rattle.records.proofs.Cases.{order-cases}
 use Rattle.banks.proofs.Standing.{check-stands, check-numbers, check-settled}
 use Rattle.banks.proofs.Cases.{check-cases}
 use Rattle.looks.proofs.Looks.{look-shows, look-stands, look-empty, look-numbers, look-at-settled}
 use Rattle.looks.proofs.Looks.{look-number-settled, look-settled}
 use Rattle.looks.proofs.Cases.{look-cases}
+use Rattle.finds.proofs.Finds.{find-says, find-refuses, find-numbers, find-stands, find-shows, find-alone, find-settled}
+use Rattle.finds.proofs.Finds.{find-word-settled}
+use Rattle.finds.proofs.Cases.{find-cases}
 use Rattle.entries.proofs.Cases.{cases as entries-cases}
 use Rattle.entries.proofs.Moved.{rest-kept, rest-settled}
 use Rattle.entries.proofs.Codes.{one-entry, broken-is-13}
@@ -75,7 +79,7 @@ use Rattle.faces.proofs.Cases.{cases as faces-cases}
 use Rattle.lifted.proofs.Demand.{demand-in-c, read-only-stay-in-c, accepts-as-unit}
 use Rattle.lifted.proofs.Following.{follows-unit}
 use Rattle.lifted.proofs.Each.{run-each, records-fit}
-use Rattle.claims.specs.Claims.{Frames, MapStoreImage, StateClock, CommandsObeyed, CompleteWriting}
+use Rattle.claims.specs.Claims.{Frames, MapStoreImage, WhyMissing, StateClock, CommandsObeyed, CompleteWriting}
 use Rattle.claims.specs.Claims.{RefusalNumbers, TraceProgram, BenchSheet, ErrorsSeen, PlaceForms}
 use Rattle.claims.specs.Claims.{Judging, CLibrary, Claims}
 
@@ -106,6 +110,18 @@ map-store-image = record {
   look-finds-what-begins-there = look-stands;
   refused-look-is-empty = look-empty;
   look-boundaries = look-cases;
+}
+
+why-missing : WhyMissing
+why-missing = record {
+  find-says-which = find-says;
+  one-answer = one-answer;
+  find-refuses = find-refuses;
+  find-boundaries = find-cases;
+  find-numbers = find-numbers;
+  find-stands = find-stands;
+  finds-come-back = find-shows;
+  refused-find-is-its-number = find-alone;
 }
 
 state-clock : StateClock
@@ -237,6 +253,8 @@ judging = record {
   look-at-settled = look-at-settled;
   look-number-settled = look-number-settled;
   look-settled = look-settled;
+  find-settled = find-settled;
+  find-word-settled = find-word-settled;
   numbers-settled = numbers-settled;
   calls-settled = calls-settled;
   entry-settled = entry-settled;
@@ -276,6 +294,7 @@ pub claims : Claims
 claims = record {
   frames = frames;
   map-store-image = map-store-image;
+  why-missing = why-missing;
   state-clock = state-clock;
   commands-obeyed = commands-obeyed;
   complete-writing = complete-writing;

@@ -15,13 +15,16 @@ use Rattle.composing.specs.Promises.{Settled as ComposingSettled}
 use Rattle.composing.specs.Refusals.{ComposerNumbers, PowerNumbers, Exactly as ComposingExactly}
 use Rattle.composing.specs.Bench.{SheetHolds as ComposingSheetHolds}
 use Rattle.composing.specs.Cases.{ComposeCases}
-use Rattle.records.specs.Promises.{OrderStands, OrderNumbers, OrderSettled}
+use Rattle.records.specs.Promises.{OrderStands, OrderNumbers, OrderSettled, OneAnswer}
 use Rattle.records.specs.Cases.{OrderCases}
 use Rattle.banks.specs.Promises.{CheckStands, CheckNumbers, CheckSettled}
 use Rattle.banks.specs.Cases.{CheckCases}
 use Rattle.looks.specs.Promises.{LookShows, LookStands, LookEmpty, LookNumbers, LookAtSettled, LookNumberSettled}
 use Rattle.looks.specs.Promises.{LookSettled}
 use Rattle.looks.specs.Cases.{LookCases}
+use Rattle.finds.specs.Promises.{FindSays, FindRefuses, FindNumbers, FindStands, FindShows, FindAlone, FindSettled}
+use Rattle.finds.specs.Promises.{FindWordSettled}
+use Rattle.finds.specs.Cases.{FindCases}
 use Rattle.entries.specs.Cases.{Cases as EntriesCases}
 use Rattle.entries.specs.Promises.{RestKept, EntrySettled, RestSettled, FourBytesSettled}
 use Rattle.entries.specs.Codes.{OneEntry, BrokenIs13}
@@ -111,6 +114,27 @@ pub record MapStoreImage : Type 0 where
   pub refused-look-is-empty : LookEmpty
   -- each boundary of a look, in one table
   pub look-boundaries : LookCases
+
+-- ---- Why a location is missing (paper 02, Item 4)
+
+pub record WhyMissing : Type 0 where
+  -- "The lookup should say which: bank absent, hole with the next mapped location in that bank, or past the bank's last
+  -- one": each, and a value that holds it, exactly if
+  pub find-says-which : FindSays
+  -- of these four one is always so, and no two are
+  pub one-answer : OneAnswer
+  -- a map that breaks 7, 8 or 9 gets that number, and no answer
+  pub find-refuses : FindRefuses
+  -- each boundary of a find, in one table
+  pub find-boundaries : FindCases
+  -- as one number: 7, 8, 9, then 6 for a bank or location that is no byte, exactly if
+  pub find-numbers : FindNumbers
+  -- and 0 exactly if none of them
+  pub find-stands : FindStands
+  -- each part of the answer stands in its bits
+  pub finds-come-back : FindShows
+  -- and a refusal is its number alone
+  pub refused-find-is-its-number : FindAlone
 
 -- ---- State and clock
 
@@ -343,6 +367,10 @@ pub record Judging : Type 0 where
   pub look-number-settled : LookNumberSettled
   -- of its part: the bytes ("or list the exception")
   pub look-settled : LookSettled
+  -- of a find
+  pub find-settled : FindSettled
+  -- of its one number
+  pub find-word-settled : FindWordSettled
   -- of the numbers of start, power-on and frame step
   pub numbers-settled : NumbersSettled
   -- of start, power-on and frame step: answer, state and store
@@ -363,7 +391,7 @@ pub record Judging : Type 0 where
   pub files-settled : FilesSettled
   -- of a state as 96 bytes
   pub packing-settled : Settled
-  -- of the ten calls of the C library
+  -- of the eleven calls of the C library
   pub faces-settled : FacesSettled
   -- "Facts over widths 1 to 8 are shown once, over the width": n writes leave the whole value
   pub whole-value : WholeValue
@@ -411,6 +439,7 @@ pub record CLibrary : Type 0 where
 pub record Claims : Type 1 where
   pub frames : Frames
   pub map-store-image : MapStoreImage
+  pub why-missing : WhyMissing
   pub state-clock : StateClock
   pub commands-obeyed : CommandsObeyed
   pub complete-writing : CompleteWriting

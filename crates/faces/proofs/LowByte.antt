@@ -1,7 +1,7 @@
 -- The low byte of every answer is its number.
 -- Assumes nothing.
-use Prim.Native.Nat.{ℕ, _^_, _<_}
-use mathlib.Core.Path.{_≡_, refl, sym, subst, _∙_}
+use Prim.Native.Nat.{ℕ, zero, suc, _^_, _<_}
+use mathlib.Core.Path.{_≡_, refl, ap, sym, subst, _∙_}
 use mathlib.Core.Bool.{true}
 use mathlib.Core.List.{List, [], _∷_}
 use native.Mathlib.Omega.{arith}
@@ -23,6 +23,8 @@ use Rattle.composing.specs.Compose.{composeOf, composePowerOf}
 use Rattle.banks.specs.Rules.{checkNumber}
 use Rattle.looks.specs.Look.{lookNumber}
 use Rattle.looks.proofs.Looks.{look-number-is}
+use Rattle.finds.specs.Find.{findTests, findNumber, findWord}
+use Rattle.finds.proofs.Finds.{find-shows, find-alone}
 use Rattle.numbers.specs.Numbers.{startNumber}
 use Rattle.unit.proofs.Numbers.{calls-reply}
 use Rattle.faces.specs.Answers.{writtenOf, source}
@@ -52,6 +54,15 @@ written : (w : Writing) → WritingFits w → bits (writingWord w) 7 0 ≡ writi
 written (Writing.Frame f) h = writing-low (Writing.Frame f) (omega arith)
 written (Writing.Refused n) h = writing-low (Writing.Refused n) h
 
+-- of a find, with the number at hand
+found-low : (map : List ℕ) (bank location n : ℕ) → findNumber map bank location ≡ n
+    → bits (findWord map bank location) 7 0 ≡ findNumber map bank location
+unfolding findNumber
+found-low map bank location zero e = find-shows map bank location e .number ∙ sym e
+found-low map bank location (suc n) e =
+    ap (λ (k : ℕ). bits k 7 0) (find-alone map bank location (omega arith))
+    ∙ itself _ (small _ (findTests map bank location) refl refl)
+
 pub low-byte : LowByte
 unfolding startFace startNumber checkNumber lookNumber
 low-byte =
@@ -60,6 +71,7 @@ low-byte =
       look = λ map store bank location.
           look-low _ (small _ _ (look-number-is map store bank location) refl)
           ∙ look-number-is map store bank location;
+      find = λ map bank location. found-low map bank location _ refl;
       start = λ map store image address groups.
           faced (startFace map store image address groups) _ (calls-reply map store image .start _) refl;
       frame = λ map store image bytes frame clock.

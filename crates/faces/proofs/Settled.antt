@@ -28,6 +28,7 @@ settled =
       power-on = λ map store image bytes. faced _;
       run = λ map store image bytes records before. ran before _;
       look = λ map store bank location. settles _;
+      find = λ map bank location. settles _;
       read = λ frame. settles _;
       write = λ word. settles _;
       compose-event = λ sort number primary short groups information scheme. settles _;

@@ -18,6 +18,7 @@ use Rattle.records.specs.Map.{recordsOf}
 use Rattle.banks.specs.Rules.{checkTests, checkNumber}
 use Rattle.looks.specs.Look.{lookNumber}
 use Rattle.looks.specs.declared.looked.Looked.{Looked}
+use Rattle.finds.specs.Find.{findNumber, findWord}
 use Rattle.hearing.specs.Pairs.{heardAt}
 use Rattle.rooms.specs.Rules.{stateHolds}
 use Rattle.rooms.specs.declared.reply.Reply.{Reply}
@@ -71,6 +72,7 @@ pub record LowByte : Type 0 where
       bits (checkAnswer map store image) 7 0 ≡ checkNumber map store (length image)
   pub look : (map store : List ℕ) (bank location : ℕ) →
       bits (lookAnswer map store bank location) 7 0 ≡ lookNumber map store bank location
+  pub find : (map : List ℕ) (bank location : ℕ) → bits (findWord map bank location) 7 0 ≡ findNumber map bank location
   pub start : (map store image : List ℕ) (address groups : ℕ) → LowReply (startFace map store image address groups)
   pub frame : (map store image bytes : List ℕ) (frame clock : ℕ) →
       LowReply (frameFace map store image bytes frame clock)
@@ -154,6 +156,10 @@ CheckFacePromise map store image r = r ≡ checkAnswer map store image
 abbrev pub LookFacePromise : List ℕ → List ℕ → ℕ → ℕ → ℕ → Type 0
 LookFacePromise map store bank location r = r ≡ lookAnswer map store bank location
 
+-- mf_find
+abbrev pub FindFacePromise : List ℕ → ℕ → ℕ → ℕ → Type 0
+FindFacePromise map bank location r = r ≡ findWord map bank location
+
 -- mf_start; state and left are the state's bytes and the store afterwards
 abbrev pub StartFacePromise : List ℕ → List ℕ → List ℕ → ℕ → ℕ → ℕ → List ℕ → List ℕ → Type 0
 StartFacePromise map store image address groups r state left =
@@ -211,6 +217,7 @@ pub record Settled : Type 0 where
   pub run : (map store image bytes records before : List ℕ) →
       SettlesRun (RunFacePromise map store image bytes records before)
   pub look : (map store : List ℕ) (bank location : ℕ) → Settles (LookFacePromise map store bank location)
+  pub find : (map : List ℕ) (bank location : ℕ) → Settles (FindFacePromise map bank location)
   pub read : (frame : ℕ) → Settles (ReadFacePromise frame)
   pub write : (word : ℕ) → Settles (WriteFacePromise word)
   pub compose-event : (sort number primary short groups information scheme : ℕ) →

@@ -4,8 +4,8 @@ ghost use mathlib.Core.Bool.{false};
 ghost use lib.ListN.{length};
 ghost use Rattle.rooms.specs.Rules.{addressHolds};
 ghost use Rattle.faces.specs.Face.{thenNumber};
-ghost use Rattle.faces.specs.Promises.{CheckFacePromise, LookFacePromise, StartFacePromise, FrameFacePromise};
-ghost use Rattle.faces.specs.Promises.{PowerOnFacePromise, RunFacePromise};
+ghost use Rattle.faces.specs.Promises.{CheckFacePromise, LookFacePromise, FindFacePromise, StartFacePromise};
+ghost use Rattle.faces.specs.Promises.{FrameFacePromise, PowerOnFacePromise, RunFacePromise};
 use crate::answers::look_word;
 use crate::answers::no_look_word;
 use crate::answers::refusal_word;
@@ -46,6 +46,13 @@ pub fn look_face(map: &[u8], store: &[u8], bank: u32, location: u32) -> u32
         return no_look_word(number_then(map, store, store, 14));
     }
     look_word(looks::look_at(map, store, bank as u8, location as u8))
+}
+
+// Which value holds the location, or why none does. They are wider than bytes, as above: 6.
+pub fn find_face(map: &[u8], bank: u32, location: u32) -> u64
+    ensures { λ r. ⌜ FindFacePromise (now (map .entry)) bank location r ⌝ }
+{
+    finds::find_word(map, bank, location)
 }
 
 // A state is made, and the store as a power-on leaves it. The address is wider than a byte, so that it is not cut to

@@ -12,7 +12,7 @@ use Rattle.records.specs.Map.{recordsOf}
 use Rattle.records.specs.Lookup.{holder}
 use Rattle.records.specs.declared.record.Record.{Record}
 use Rattle.records.specs.declared.holder.Found.{Found}
-use Rattle.records.specs.declared.holder.Found.the-variants.{At, Nothing}
+use Rattle.records.specs.declared.holder.Found.the-variants.{At, Missing}
 use Rattle.banks.specs.Values.{valueOf}
 use Rattle.memory.specs.declared.staged.Staged.{Staged}
 use Rattle.rooms.specs.declared.state.State.{State}
@@ -27,7 +27,7 @@ over store l = record { number = l .number; state = l .state; store = store }
 -- the bytes that are staged, put at their places already
 abbrev pub early : Staged → List ℕ → Found → List ℕ
 early g store (At r) = put (r .offset) (take (g .count) (g .bytes)) store
-early g store Nothing = store
+early g store (Missing w) = store
 
 abbrev pub earlyLeft : List Record → Staged → Left State → Left State
 earlyLeft rs g l = over (if leb 1 (g .count) then early g (l .store) (holder rs (g .bank) (g .first)) else l .store) l
@@ -61,7 +61,7 @@ same (a ∷ rest) (b ∷ bs) = eqb a b && same rest bs
 -- dropped changes no byte of it)
 abbrev pub landed : Staged → Found → List ℕ → List ℕ → Bool
 landed g (At r) before now = leb 1 (g .count) && not (same (valueOf r before) (valueOf r now))
-landed g Nothing before now = false
+landed g (Missing w) before now = false
 
 abbrev pub satedLeft : List Record → List ℕ → Sated → Left State → Left Sated
 satedLeft rs store s l =

@@ -18,7 +18,7 @@ use Rattle.records.specs.Map.{recordsOf, mapped}
 use Rattle.records.specs.Lookup.{holder}
 use Rattle.records.specs.declared.record.Record.{Record}
 use Rattle.records.specs.declared.holder.Found.{Found}
-use Rattle.records.specs.declared.holder.Found.the-variants.{At, Nothing as None}
+use Rattle.records.specs.declared.holder.Found.the-variants.{At, Missing}
 use Rattle.banks.specs.Rules.{placed}
 use Rattle.banks.specs.Values.{valueOf, padded}
 use Rattle.banks.specs.Facts.{Within}
@@ -85,7 +85,7 @@ module _ (g : Staged) (long : length (g .bytes) ≡ 8) where
           (λ e. if-by Eight (eqb (location - r .first + 1) (r .width)) (λ q. refl)
           (λ q. with-eight (location - r .first) byte))
           (λ e. refl)
-      go None = refl
+      go (Missing w) = refl
 
 module _ (map store : List ℕ) (p : placed map (length store) ≡ true) (l : Latch) (long : length (l .bytes) ≡ 8) where
   abbrev EightShown : Shown → Type 0
@@ -110,7 +110,7 @@ module _ (map store : List ℕ) (p : placed map (length store) ≡ true) (l : La
           (λ e. if-by (λ (m : Latch). length (m .bytes) ≡ 8) (leb 2 (r .width))
           (λ t. padded-eight bank location r q) (λ t. refl))
           (λ e. if-by EightShown (latches l r) (λ t. long) (λ t. long))
-      go None q = long
+      go (Missing w) q = long
 
 -- ---- what is due
 

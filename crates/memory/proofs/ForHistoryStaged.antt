@@ -20,7 +20,7 @@ use Rattle.records.specs.Facts.{Member, FieldsHold, Holds}
 use Rattle.records.specs.declared.record.Record.{Record}
 use Rattle.records.specs.declared.holder.Beginning.the-variants.{Begins}
 use Rattle.records.specs.declared.holder.Found.{Found}
-use Rattle.records.specs.declared.holder.Found.the-variants.{At, Nothing}
+use Rattle.records.specs.declared.holder.Found.the-variants.{At, Missing}
 use Rattle.records.proofs.Locations.{holder-hit, first-found}
 use Rattle.records.proofs.Members.{member-fields}
 use Rattle.banks.specs.Rules.{placed}
@@ -328,7 +328,7 @@ module _ (map store : List ℕ) (p : placed map (length store) ≡ true) (g : St
           clash (taken (recordsOf map) store g r location) (rw z (t .took)) b)
 
       go : (f : Found) → holder (recordsOf map) bank location ≡ f → stagedFor v (W .answer .staged) ≡ []
-      go Nothing f = drops (λ r t. let z : _≡_ {A = ℕ} 0 1 = cc (t .found) in omega arith)
+      go (Missing w) f = drops (λ r t. let z : _≡_ {A = ℕ} 0 1 = cc (t .found) in omega arith)
       go (At r) f = pick r f (taken (recordsOf map) store g r location) refl
 
   -- an executed write, seen from a writable value

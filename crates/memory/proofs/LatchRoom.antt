@@ -17,7 +17,7 @@ use Rattle.records.specs.Map.{recordsOf}
 use Rattle.records.specs.Lookup.{holder}
 use Rattle.records.specs.declared.record.Record.{Record}
 use Rattle.records.specs.declared.holder.Found.{Found}
-use Rattle.records.specs.declared.holder.Found.the-variants.{At, Nothing}
+use Rattle.records.specs.declared.holder.Found.the-variants.{At, Missing}
 use Rattle.records.proofs.Locations.{first-found}
 use Rattle.banks.specs.Rules.{placed}
 use Rattle.banks.specs.Values.{valueOf, padded}
@@ -61,7 +61,7 @@ read-other rs store l bank location r f h n =
 
 pub read-none : ReadNone
 unfolding readByte readAt
-read-none rs store l bank location f = rw f
+read-none rs store l bank location w f = rw f
 
 -- the latch that a first or single byte leaves
 latch-first : (store : List ℕ) (r : Record)
@@ -130,4 +130,4 @@ read-keeps-rule map store p l e bank location = go (holder (recordsOf map) bank 
     go : (f : Found) → holder (recordsOf map) bank location ≡ f
         → latchHolds (recordsOf map) (readAt store l location f .latch) ≡ true
     go (At r) q = shown-holds map store p bank location r q l e (location - r .first)
-    go Nothing q = e
+    go (Missing w) q = e

@@ -17,7 +17,7 @@ use Rattle.records.specs.Lookup.{holder}
 use Rattle.records.specs.Facts.{Member}
 use Rattle.records.specs.declared.record.Record.{Record}
 use Rattle.records.specs.declared.holder.Found.{Found}
-use Rattle.records.specs.declared.holder.Found.the-variants.{At, Nothing}
+use Rattle.records.specs.declared.holder.Found.the-variants.{At, Missing}
 use Rattle.records.proofs.Locations.{mapped-member}
 use Rattle.banks.specs.Rules.{isLock}
 use Rattle.banks.specs.Values.{valueOf, byteAt, lockByte}
@@ -118,7 +118,7 @@ module _ (map store image : List ℕ) (S : Stands map store (length image)) (dtr
       go (At r) f l =
           let w = holder-within map (length store) bank 0x02 (S .in-place) r f in
           mapped-member map bank .1 (r, w .member, w .holds .same-bank)
-      go Nothing f l = absurd (omega arith)
+      go (Missing w) f l = absurd (omega arith)
 
   resets : (bank : ℕ) → 1 ≤ bank → selects dtr0 bank ≡ true → lockByte rs store bank ≡ 0x55
       → BankReset map image after bank

@@ -19,7 +19,7 @@ use Rattle.records.specs.Facts.{Holds}
 use Rattle.records.proofs.Locations.{holds-is, holder-at}
 use Rattle.records.specs.declared.record.Record.{Record}
 use Rattle.records.specs.declared.holder.Found.{Found}
-use Rattle.records.specs.declared.holder.Found.the-variants.{At, Nothing}
+use Rattle.records.specs.declared.holder.Found.the-variants.{At, Missing}
 use Rattle.banks.specs.Values.{putValue}
 use Rattle.memory.specs.Staged.{noneStaged, isNext, unlocked, taken, bytesWith, stagedOf, wrote, takeByte}
 use Rattle.memory.specs.Staged.{dropped, writeFound, writeAt, writeByte}
@@ -90,7 +90,7 @@ module _ (rs : List Record) (store : List ℕ) (g : Staged) (bank location byte 
           (λ w. last r (record { found = e; took = t }) w)
           (λ w. more r (record { found = e; took = t }) w))
           (λ t. none)
-      go Nothing e = none
+      go (Missing w) e = none
 
   module _ (r : Record) (t : TakesIt r) where
     pub write-more : (number r + 1 ≡ r .width → ⊥) → writeByte rs store g bank location byte ≡ stages r

@@ -9,7 +9,7 @@ use Rattle.laws.specs.Choice.{if_then_else_}
 use Rattle.records.specs.Lookup.{holder}
 use Rattle.records.specs.declared.record.Record.{Record}
 use Rattle.records.specs.declared.holder.Found.{Found}
-use Rattle.records.specs.declared.holder.Found.the-variants.{At, Nothing}
+use Rattle.records.specs.declared.holder.Found.the-variants.{At, Missing}
 use Rattle.banks.specs.Values.{valueOf, padded}
 use Rattle.memory.specs.declared.latched.Latch.{Latch}
 use Rattle.memory.specs.declared.latched.Shown.{Shown}
@@ -42,7 +42,7 @@ showByte l r value k =
 -- answer the byte, or none if the location is unmapped
 unfoldable pub readAt : List ℕ → Latch → ℕ → Found → Shown
 readAt store l location (At r) = showByte l r (valueOf r store) (location - r .first)
-readAt store l location Nothing = record { latch = l; answered = false; answer = 0 }
+readAt store l location (Missing w) = record { latch = l; answered = false; answer = 0 }
 
 unfoldable pub readByte : List Record → List ℕ → Latch → ℕ → ℕ → Shown
 readByte rs store l bank location = readAt store l location (holder rs bank location)

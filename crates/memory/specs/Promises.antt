@@ -14,7 +14,8 @@ use Rattle.records.specs.Map.{recordsOf, writable, mapped, locationsEnd, places
 use Rattle.records.specs.Lookup.{holder}
 use Rattle.records.specs.Facts.{Member}
 use Rattle.records.specs.declared.record.Record.{Record}
-use Rattle.records.specs.declared.holder.Found.the-variants.{At, Nothing}
+use Rattle.records.specs.declared.holder.Found.the-variants.{At, Missing}
+use Rattle.records.specs.declared.holder.Why.{Why}
 use Rattle.banks.specs.Rules.{placed, checkNumber}
 use Rattle.banks.specs.Values.{valueOf, putValue, lockByte, padded}
 use Rattle.banks.specs.Facts.{Stands}
@@ -181,7 +182,7 @@ ReadOther =
 -- no answer if the location is unmapped, and the latch stays
 abbrev pub ReadNone : Type 0
 ReadNone =
-    (rs : List Record) (store : List ℕ) (l : Latch) (bank location : ℕ) → holder rs bank location ≡ Nothing
+    (rs : List Record) (store : List ℕ) (l : Latch) (bank location : ℕ) (w : Why) → holder rs bank location ≡ Missing w
     → readByte rs store l bank location ≡ record { latch = l; answered = false; answer = 0 }
 
 abbrev pub NoneLatchedHolds : Type 0

@@ -12,7 +12,7 @@ use Rattle.records.specs.Map.{writable}
 use Rattle.records.specs.Lookup.{holder}
 use Rattle.records.specs.declared.record.Record.{Record}
 use Rattle.records.specs.declared.holder.Found.{Found}
-use Rattle.records.specs.declared.holder.Found.the-variants.{At, Nothing}
+use Rattle.records.specs.declared.holder.Found.the-variants.{At, Missing}
 use Rattle.banks.specs.Values.{putValue, lockByte}
 use Rattle.memory.specs.declared.staged.Staged.{Staged}
 use Rattle.memory.specs.declared.staged.Wrote.{Wrote}
@@ -64,7 +64,7 @@ writeFound rs store g r location byte =
 
 unfoldable pub writeAt : List Record → List ℕ → Staged → ℕ → ℕ → Found → Outcome Wrote
 writeAt rs store g location byte (At r) = writeFound rs store g r location byte
-writeAt rs store g location byte Nothing = dropped store
+writeAt rs store g location byte (Missing w) = dropped store
 
 -- an executed write of the byte at the bank and location
 unfoldable pub writeByte : List Record → List ℕ → Staged → ℕ → ℕ → ℕ → Outcome Wrote

@@ -107,7 +107,7 @@ pub fn read_byte(map: &[u8], store: &[u8], latch: Latch, bank: u8, location: u8)
 {
     match lookup(map, bank, location) {
         Found::At(r) => show_value(store, latch, r, location),
-        Found::Nothing => Shown {
+        Found::Missing(_) => Shown {
             latch: latch,
             answered: false,
             answer: 0,

@@ -141,6 +141,6 @@ pub fn write_byte(
 {
     match lookup(map, bank, location) {
         Found::At(r) => write_found(map, store, staged, r, location, byte),
-        Found::Nothing => wrote_as(false, none_staged()),
+        Found::Missing(_) => wrote_as(false, none_staged()),
     }
 }

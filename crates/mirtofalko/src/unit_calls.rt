@@ -1,6 +1,6 @@
 // The calls of the unit: on a map, a store, a reset image and a state of 96 bytes.
-ghost use Rattle.faces.specs.Promises.{CheckFacePromise, LookFacePromise, StartFacePromise, FrameFacePromise};
-ghost use Rattle.faces.specs.Promises.{PowerOnFacePromise, RunFacePromise};
+ghost use Rattle.faces.specs.Promises.{CheckFacePromise, LookFacePromise, FindFacePromise, StartFacePromise};
+ghost use Rattle.faces.specs.Promises.{FrameFacePromise, PowerOnFacePromise, RunFacePromise};
 
 // The number of map, store and reset image: 7 to 11, or 0.
 #[no_mangle]
@@ -16,6 +16,14 @@ pub extern "C" fn mf_look(map: &[u8], store: &[u8], bank: u32, location: u32) ->
     ensures { λ r. ⌜ LookFacePromise (now (map .entry)) (now (store .entry)) bank location r ⌝ }
 {
     faces::look_face(map, store, bank, location)
+}
+
+// Which value holds the location, or why none does.
+#[no_mangle]
+pub extern "C" fn mf_find(map: &[u8], bank: u32, location: u32) -> u64
+    ensures { λ r. ⌜ FindFacePromise (now (map .entry)) bank location r ⌝ }
+{
+    faces::find_face(map, bank, location)
 }
 
 // A state is made, and the store as a power-on leaves it.

@@ -1,29 +1,33 @@
 -- Halving: what it visits are records of the map, and in an ordered map it finds what the walk finds.
 -- Assumes nothing.
 use Prim.Native.Nat.{ℕ, zero, suc, _+_, _≤_, _<_, _-_, _/_}
-use mathlib.Core.Path.{_≡_, refl, sym}
+use mathlib.Core.Path.{_≡_, refl, ap, sym, subst, _∙_}
 use mathlib.Core.Logic.{_⊎_, inl, inr, ⊎-elim}
-use mathlib.Core.Bool.{Bool, true, false}
+use mathlib.Core.Bool.{Bool, true, false, _&&_}
 use mathlib.Core.List.{List, [], _∷_, List·Memᴰ, List·Memᴰ·not-nil, List·Memᴰ·cases-cons, map as each}
+use mathlib.Core.List.{List·Memᴰ·head, List·Memᴰ·tail}
 use native.Mathlib.Omega.{arith}
-use borrow.Author.Tests.{lt-ltb, le-ltb, eq-eqb, ne-eqb, eqb-true, eqb-false}
+use borrow.Author.Tests.{lt-ltb, le-ltb, eq-eqb, ne-eqb, ltb-true, ltb-false, eqb-true, eqb-false}
+use lib.Dec.{ltb, eqb}
 use lib.ListN.{length}
-use Rattle.laws.specs.Lists.{items, some}
-use Rattle.laws.proofs.Tests.{if-by, if-lt, and-of, clash}
-use Rattle.laws.proofs.Sides.{or-left, or-right, same-test}
+use Rattle.laws.specs.Lists.{items}
+use Rattle.laws.proofs.Tests.{if-by, if-lt, both, and-of, clash}
+use Rattle.laws.proofs.Sides.{either, or-left, or-right, same-test}
 use Rattle.laws.proofs.Members.{some-at, some-of}
 use Rattle.records.specs.Map.{recordAt, recordsOf}
 use Rattle.records.specs.Order.{ordered}
-use Rattle.records.specs.Lookup.{holds, holder}
+use Rattle.records.specs.Lookup.{holds, why, holder}
 use Rattle.records.specs.Facts.{Member, Before, Holds}
 use Rattle.records.specs.Halving.{Sought, atLocation, inBank, middle, visits, visitsOf, visited, halved, halvedBank}
 use Rattle.records.specs.Promises.{HalvingFinds, HalvingMaps}
 use Rattle.records.specs.declared.record.Record.{Record}
 use Rattle.records.specs.declared.holder.Found.{Found}
-use Rattle.records.specs.declared.holder.Found.the-variants.{At, Nothing}
+use Rattle.records.specs.declared.holder.Found.the-variants.{At, Missing}
+use Rattle.records.specs.declared.holder.Why.{Why}
 use Rattle.records.proofs.Walk.{member}
 use Rattle.records.proofs.Members.{rises, members-rise}
 use Rattle.records.proofs.Locations.{holds-is, holder-at, holder-none, none-holder, rising-hit}
+use Rattle.records.proofs.Why.{neither, Among, Near, tells-one, tells-near, why-tells}
 
 -- a test comes out one way or the other, and two numbers stand in one of three ways
 true-or-false : (b : Bool) → (b ≡ true) ⊎ (b ≡ false)
@@ -50,6 +54,12 @@ items-number item i (suc n) r q =
 numbered : (map : List ℕ) (r : Record) → Member r map → (k : ℕ) × (k < length map / 8) × (r ≡ recordAt map k)
 unfolding recordsOf
 numbered map r m = let x = items-number (recordAt map) 0 (length map / 8) r m in (x .0, omega arith, x .2)
+
+-- of the records at the positions l, one that is Q
+record Reached (map : List ℕ) (Q : Record → Type 0) (l : List ℕ) : Type 0 where
+  at : Record
+  among : List·Memᴰ at (each (recordAt map) l)
+  is : Q at
 
 module _ (map : List ℕ) (s : Sought) where
   -- what holds of no position, and with each position below n of one more, holds of those visited
@@ -78,36 +88,42 @@ module _ (map : List ℕ) (s : Sought) where
       (λ m l h f q. ⊎-elim (λ e. member map (length map / 8) m refl h r e) f (List·Memᴰ·cases-cons q))
       _ _ _ (omega arith)
 
-  -- what is sought stands at j; then a record where it is not sends to the side of j
-  abbrev Guides : ℕ → ℕ → Type 0
-  Guides n j =
-      (i : ℕ) → i < n → s .here (recordAt map i) ≡ false
-      → (s .left (recordAt map i) ≡ true → j < i) × (s .left (recordAt map i) ≡ false → i < j)
+  -- a record Q stands at j; then each record is Q, or sends to the side of j
+  abbrev Guides : (Record → Type 0) → ℕ → ℕ → Type 0
+  Guides Q n j =
+      (i : ℕ) → i < n
+      → let r = recordAt map i in
+      (s .here r ≡ true → Q r)
+      × (s .here r ≡ false → s .left r ≡ true → Q r ⊎ (j < i)) × (s .here r ≡ false → s .left r ≡ false → Q r ⊎ (i < j))
 
-  reaches : (n j : ℕ) → Guides n j → s .here (recordAt map j) ≡ true
+  -- then one that is Q is visited
+  reaches : (Q : Record → Type 0) (n j : ℕ) → Guides Q n j
       → (fuel low high : ℕ) → high - low ≤ fuel → high ≤ n → low ≤ j → j < high
-      → some (s .here) (each (recordAt map) (visits map s fuel low high)) ≡ true
+      → Reached map Q (visits map s fuel low high)
   unfolding visits
-  reaches n j g t zero low high k h a b = absurd (omega arith)
-  reaches n j g t (suc fuel) low high k h a b =
+  reaches Q n j g zero low high k h a b = absurd (omega arith)
+  reaches Q n j g (suc fuel) low high k h a b =
       let m = middle low high in
       let r = recordAt map m in
-      let P : List ℕ → Type 0 = λ l. some (s .here) (each (recordAt map) l) ≡ true in
-      if-lt P low high
+      if-lt (Reached map Q) low high
       (λ lt.
-      ⊎-elim
-      (λ e. or-left (s .here r) _ e)
+      let guide = g m (omega arith) in
+      let here : (l : List ℕ) → Q r → Reached map Q (m ∷ l) = λ l q.
+      record { at = r; among = List·Memᴰ·head refl; is = q } in
+      let later : (l : List ℕ) → Reached map Q l → Reached map Q (m ∷ l) = λ l x.
+      record { at = x .at; among = List·Memᴰ·tail (x .among); is = x .is } in
+      if-by (λ (l : List ℕ). Reached map Q (m ∷ l)) (s .here r)
+      (λ e. here [] (guide .0 e))
       (λ e.
-      or-right (s .here r) _
-      (rw e
-      (if-by P (s .left r)
+      if-by (λ (l : List ℕ). Reached map Q (m ∷ l)) (s .left r)
       (λ u.
-      let before = g m (omega arith) e .0 u in
-      reaches n j g t fuel _ _ (omega arith) (omega arith) a (omega arith))
+      ⊎-elim (here _)
+      (λ before. later _ (reaches Q n j g fuel _ _ (omega arith) (omega arith) a (omega arith)))
+      (guide .1 e u))
       (λ u.
-      let behind = g m (omega arith) e .1 u in
-      reaches n j g t fuel _ _ (omega arith) h (omega arith) b))))
-      (true-or-false (s .here r)))
+      ⊎-elim (here _)
+      (λ behind. later _ (reaches Q n j g fuel _ _ (omega arith) h (omega arith) b))
+      (guide .2 e u))))
       (λ ge. absurd (omega arith))
 
   -- against a record where what is sought is not: left of it if a record before has it, else right
@@ -116,28 +132,33 @@ module _ (map : List ℕ) (s : Sought) where
       (p r : Record) → s .here p ≡ true → s .here r ≡ false
       → (Before p r → s .left r ≡ true) × (Before r p → s .left r ≡ false)
 
-  guides : ordered map ≡ true → Sides → (j : ℕ) → j < length map / 8 → s .here (recordAt map j) ≡ true
-      → Guides (length map / 8) j
-  guides o side j l t i k f =
+  abbrev Here : Record → Type 0
+  Here r = s .here r ≡ true
+
+  guides : ordered map ≡ true → Sides → (j : ℕ) → j < length map / 8 → Here (recordAt map j)
+      → Guides Here (length map / 8) j
+  guides o side j l t i k =
       let p = recordAt map j in
       let r = recordAt map i in
-      let both = side p r t f in
-      ⊎-elim
-      (λ q. (λ u. clash (s .left r) u (both .1 (members-rise map o i j q l)), λ u. q))
-      (⊎-elim
-      (λ e. let here : s .here r ≡ true = rw e t in (λ u. clash (s .here r) here f, λ u. clash (s .here r) here f))
-      (λ q. (λ u. q, λ u. clash (s .left r) (both .0 (members-rise map o j i q k)) u)))
-      (compare i j)
+      let same : i ≡ j → Here r = λ e. rw e t in (
+        λ e. e,
+        λ f u.
+            ⊎-elim (λ q. clash (s .left r) u (side p r t f .1 (members-rise map o i j q l)))
+            (⊎-elim (λ e. inl (same e)) inr)
+            (compare i j),
+        λ f u.
+            ⊎-elim inr
+            (⊎-elim (λ e. inl (same e)) (λ q. clash (s .left r) (side p r t f .0 (members-rise map o j i q k)) u))
+            (compare i j),
+      )
 
   -- in an ordered map, what some record has, some record that is visited has
-  found : ordered map ≡ true → Sides → some (s .here) (recordsOf map) ≡ true
-      → some (s .here) (each (recordAt map) (visitsOf map s)) ≡ true
-  found o side e =
-      let x = some-at (s .here) (recordsOf map) e in
-      let i = numbered map (x .0) (x .1) in
-      let t : s .here (recordAt map (i .0)) ≡ true = rw (sym (i .2)) (x .2) in
+  found : ordered map ≡ true → Sides → (r : Record) → Member r map → Here r → Reached map Here (visitsOf map s)
+  found o side r m t =
+      let i = numbered map r m in
+      let t : Here (recordAt map (i .0)) = rw (sym (i .2)) t in
       let below = i .1 in
-      reaches (length map / 8) (i .0) (guides o side (i .0) below t) t _ _ _ (omega arith) (omega arith) (omega arith)
+      reaches Here (length map / 8) (i .0) (guides o side (i .0) below t) _ _ _ (omega arith) (omega arith) (omega arith)
       (omega arith)
 
 -- a location
@@ -180,11 +201,90 @@ pub halving-maps : HalvingMaps
 unfolding halvedBank
 halving-maps map o bank =
     let here : Record → Bool = inBank bank .here in
+    let seen = each (recordAt map) (visitsOf map (inBank bank)) in
     same-test _ _
     (λ e.
-    let x = some-at here (each (recordAt map) (visitsOf map (inBank bank))) e in
+    let x = some-at here seen e in
     some-of here (recordsOf map) (x .0) (visits-members map (inBank bank) (x .0) (x .1)) (x .2))
-    (found map (inBank bank) o (bank-sides map bank))
+    (λ e.
+    let x = some-at here (recordsOf map) e in
+    let y = found map (inBank bank) o (bank-sides map bank) (x .0) (x .1) (x .2) in
+    some-of here seen (y .at) (y .among) (y .is))
+
+-- left of a record, as numbers
+pub location-is-left : (bank location : ℕ) (r : Record) → atLocation bank location .left r ≡ true
+    → (bank < r .bank) ⊎ ((bank ≡ r .bank) × (location < r .first))
+location-is-left bank location r e =
+    ⊎-elim
+    (λ t. inl (ltb-true bank (r .bank) t))
+    (λ t.
+    let b = both (eqb bank (r .bank)) (ltb location (r .first)) t in
+    inr (eqb-true bank (r .bank) (b .0), ltb-true location (r .first) (b .1)))
+    (either (ltb bank (r .bank)) _ e)
+
+pub location-not-left : (bank location : ℕ) (r : Record) → atLocation bank location .left r ≡ false
+    → (r .bank ≤ bank) × (bank ≡ r .bank → r .first ≤ location)
+location-not-left bank location r e =
+    let n = neither (ltb bank (r .bank)) _ e in (
+      ltb-false bank (r .bank) (n .0),
+      λ s.
+          ltb-false location (r .first)
+          (subst (λ (a : Bool). (a && ltb location (r .first)) ≡ false) (eq-eqb bank (r .bank) s) (n .1)),
+    )
+
+-- Of a record of the bank, one that is visited in its place is as near.
+abbrev AsFar : ℕ → Record → Record → Type 0
+AsFar location x r = location < x .first → (location < r .first) × (r .first ≤ x .first)
+
+module _ (bank location : ℕ) (x r : Record) (b : x .bank ≡ bank) where
+  abbrev AsNear : Type 0
+  AsNear = (r .bank ≡ bank) × AsFar location x r
+
+  near-above : Before r x → (bank < r .bank) ⊎ ((bank ≡ r .bank) × (location < r .first)) → AsNear
+  near-above (inl k) (inl l) = absurd (omega arith)
+  near-above (inl k) (inr l) = absurd (omega arith)
+  near-above (inr k) (inl l) = absurd (omega arith)
+  near-above (inr k) (inr l) = (omega arith, λ h. (omega arith, omega arith))
+
+  near-below : Before x r → (r .bank ≤ bank) × (bank ≡ r .bank → r .first ≤ location) → AsNear
+  near-below (inl k) l = absurd (omega arith)
+  near-below (inr k) l = let low = l .1 (omega arith) in (omega arith, λ h. absurd (omega arith))
+
+guides-near : (map : List ℕ) → ordered map ≡ true → (bank location : ℕ)
+    → ((r : Record) → Member r map → holds r bank location ≡ false)
+    → (j : ℕ) → j < length map / 8 → (b : recordAt map j .bank ≡ bank)
+    → Guides map (atLocation bank location) (λ r. AsNear bank location (recordAt map j) r b) (length map / 8) j
+guides-near map o bank location none j l b i k =
+    let x = recordAt map j in
+    let r = recordAt map i in
+    let same : i ≡ j → AsNear bank location x r b = λ e. rw e (b, λ h. (h, omega arith)) in (
+      λ e. clash (holds r bank location) e (none r (member map (length map / 8) i refl k r refl)),
+      λ f u.
+          ⊎-elim
+          (λ q. inl (near-above bank location x r b (members-rise map o i j q l) (location-is-left bank location r u)))
+          (⊎-elim (λ e. inl (same e)) inr)
+          (compare i j),
+      λ f u.
+          ⊎-elim inr
+          (⊎-elim (λ e. inl (same e)) (λ q.
+          inl (near-below bank location x r b (members-rise map o j i q k) (location-not-left bank location r u))))
+          (compare i j),
+    )
+
+-- where no record holds the location, one that is as near as any record of the bank is visited
+visits-near : (map : List ℕ) → ordered map ≡ true → (bank location : ℕ)
+    → ((r : Record) → Member r map → holds r bank location ≡ false)
+    → (x : Record) → Member x map → x .bank ≡ bank
+    → Near bank location (Among bank location (each (recordAt map) (visitsOf map (atLocation bank location)))) x
+visits-near map o bank location none x m b =
+    let i = numbered map x m in
+    let y = recordAt map (i .0) in
+    let c : y .bank ≡ bank = rw (sym (i .2)) b in
+    let below = i .1 in
+    let n = length map / 8 in
+    let v = reaches map (atLocation bank location) (λ r. AsNear bank location y r c) n (i .0)
+    (guides-near map o bank location none (i .0) below c) n 0 n (omega arith) (omega arith) (omega arith) (omega arith) in
+    (v .at, v .among, v .is .0, subst (λ (z : Record). AsFar location z (v .at)) (sym (i .2)) (v .is .1))
 
 pub halving-finds : HalvingFinds
 unfolding halved visited
@@ -196,16 +296,26 @@ halving-finds map o bank location = go (holder seen bank location) refl
     seen : List Record
     seen = each (recordAt map) (visitsOf map sought)
 
+    none-holds : (w : Why) → holder seen bank location ≡ Missing w → (r : Record) → Member r map
+        → holds r bank location ≡ false
+    none-holds w e r m =
+        ⊎-elim
+        (λ t.
+        let x = found map sought o (location-sides map bank location) r m t in
+        clash (holds (x .at) bank location) (x .is) (holder-none bank location seen w e (x .at) (x .among)))
+        (λ f. f)
+        (true-or-false (holds r bank location))
+
     go : (f : Found) → holder seen bank location ≡ f → f ≡ holder (recordsOf map) bank location
     go (At r) e =
         let x = holder-at bank location seen r e in
         sym (rising-hit bank location (recordsOf map) (rises map o) r (visits-members map sought r (x .0)) (x .1))
-    go Nothing e =
-        sym (none-holder bank location (recordsOf map) (λ r m.
-        ⊎-elim
-        (λ t.
-        let y = found map sought o (location-sides map bank location) (some-of (sought .here) (recordsOf map) r m t) in
-        let x = some-at (sought .here) seen y in
-        clash (holds (x .0) bank location) (x .2) (holder-none bank location seen e (x .0) (x .1)))
-        (λ f. f)
-        (true-or-false (holds r bank location))))
+    go (Missing w) e =
+        let none = none-holds w e in
+        let reason = tells-near bank location (Among bank location seen) (Among bank location (recordsOf map))
+        (visits-members map sought) (visits-near map o bank location none) (why seen bank location)
+        (why-tells bank location seen) in
+        sym e ∙ none-holder bank location seen (holder-none bank location seen w e)
+        ∙ ap Missing (tells-one bank location (Among bank location (recordsOf map)) _ _ reason
+        (why-tells bank location (recordsOf map)))
+        ∙ sym (none-holder bank location (recordsOf map) none)

@@ -1,7 +1,10 @@
 pub mod Walk
 pub mod Members
 pub mod Locations
+pub mod Why
+pub mod Missing
 pub mod Halving
+pub mod Neighbours
 pub mod Turns
 pub mod Ordered
 pub mod Cases

@@ -11,12 +11,15 @@ use lib.Dec.{eqb}
 use lib.ListN.{length}
 use Rattle.laws.proofs.Tests.{if-lt}
 use Rattle.records.specs.Map.{recordAt, mapped}
-use Rattle.records.specs.Lookup.{holds, holder}
+use Rattle.records.specs.Lookup.{holds, heldOr, holder}
 use Rattle.records.specs.Halving.{Sought, atLocation, inBank, middle, after, visits, visitsOf, visited, halved, halvedBank}
 use Rattle.records.specs.Promises.{MoreFuel}
 use Rattle.records.specs.declared.record.Record.{Record}
 use Rattle.records.specs.declared.holder.Found.{Found}
-use Rattle.records.specs.declared.holder.Found.the-variants.{At, Nothing}
+use Rattle.records.specs.declared.holder.Found.the-variants.{At, Missing}
+use Rattle.records.specs.declared.holder.Why.{Why}
+use Rattle.records.specs.declared.holder.Why.the-variants.{Absent}
+use Rattle.records.proofs.Why.{told, carried, carried-why}
 
 module _ (map : List ℕ) (s : Sought) where
   -- the middle of low and high, and what comes after it
@@ -95,46 +98,49 @@ module _ (map : List ℕ) (s : Sought) where
 pub more-fuel : MoreFuel
 more-fuel map sought fuel h = enough map sought fuel (length map / 8) 0 (length map / 8) (omega arith) (omega arith)
 
--- An answer over the records visited, which a record that is not what is sought leaves as it was: a turn of the search.
-module _ (map : List ℕ) (s : Sought) {A : Type 0} (f : List Record → A)
-    (skips : (r : Record) (rs : List Record) → s .here r ≡ false → f (r ∷ rs) ≡ f rs)
-    {x : A} {low high m : ℕ} {r : Record} where
-  pub stops : x ≡ f (seen map s low high) → low < high → m ≡ middle low high → r ≡ recordAt map m → s .here r ≡ true
-      → f (r ∷ []) ≡ x
-  stops v lt e q t = sym (v ∙ ap f (seen-here map s lt e q t))
-
+-- An answer over the records visited; a record that is not what is sought leaves it to an answer over the rest: a turn of the
+-- search.
+module _ (map : List ℕ) (s : Sought) {A : Type 0} (f g : List Record → A) {x : A} {low high m : ℕ} {r : Record}
+    (skips : (rs : List Record) → s .here r ≡ false → f (r ∷ rs) ≡ g rs) where
   pub goes-left : x ≡ f (seen map s low high) → low < high → m ≡ middle low high → r ≡ recordAt map m
       → s .here r ≡ false → s .left r ≡ true
-      → x ≡ f (seen map s low m)
-  goes-left v lt e q t u = v ∙ ap f (seen-left map s lt e q t u) ∙ skips r _ t
+      → x ≡ g (seen map s low m)
+  goes-left v lt e q t u = v ∙ ap f (seen-left map s lt e q t u) ∙ skips _ t
 
   pub goes-right : x ≡ f (seen map s low high) → low < high → m ≡ middle low high → r ≡ recordAt map m
       → s .here r ≡ false → s .left r ≡ false
-      → x ≡ f (seen map s (m + 1) high)
-  goes-right v lt e q t u = v ∙ ap f (seen-right map s lt e q t u) ∙ skips r _ t
+      → x ≡ g (seen map s (m + 1) high)
+  goes-right v lt e q t u = v ∙ ap f (seen-right map s lt e q t u) ∙ skips _ t
 
--- the record that holds a location
-abbrev pub holder-in : ℕ → ℕ → List Record → Found
-holder-in bank location rs = holder rs bank location
+pub stops : (map : List ℕ) (s : Sought) {A : Type 0} (f : List Record → A) {x : A} {low high m : ℕ} {r : Record}
+    → x ≡ f (seen map s low high) → low < high → m ≡ middle low high → r ≡ recordAt map m → s .here r ≡ true
+    → f (r ∷ []) ≡ x
+stops map s f v lt e q t = sym (v ∙ ap f (seen-here map s lt e q t))
 
-pub holder-skips : (bank location : ℕ) (r : Record) (rs : List Record) → holds r bank location ≡ false
-    → holder-in bank location (r ∷ rs) ≡ holder-in bank location rs
-unfolding holder
-holder-skips bank location r rs t = rw t
+-- the record that holds a location, and the reason that is carried
+abbrev pub holder-in : ℕ → ℕ → Why → List Record → Found
+holder-in bank location w rs = heldOr (Missing (carried bank location w rs)) rs bank location
 
-pub holder-has : (bank location : ℕ) (r : Record) → holds r bank location ≡ true → At r ≡ holder-in bank location (r ∷ [])
-unfolding holder
-holder-has bank location r t = rw t
+pub holder-skips : (bank location : ℕ) (w v : Why) (r : Record) → v ≡ told bank location r w → (rs : List Record)
+    → holds r bank location ≡ false
+    → holder-in bank location w (r ∷ rs) ≡ holder-in bank location v rs
+holder-skips bank location w v r e rs t = rw (t, e)
+
+pub holder-has : (bank location : ℕ) (w : Why) (r : Record) → holds r bank location ≡ true
+    → At r ≡ holder-in bank location w (r ∷ [])
+holder-has bank location w r t = rw t
 
 pub holder-starts : (map : List ℕ) (bank location n : ℕ) → n ≡ length map / 8
-    → halved map bank location ≡ holder-in bank location (seen map (atLocation bank location) 0 n)
-unfolding halved visited
-holder-starts map bank location n e = ap (holder-in bank location) (seen-start map (atLocation bank location) n e)
+    → halved map bank location ≡ holder-in bank location Absent (seen map (atLocation bank location) 0 n)
+unfolding halved visited holder
+holder-starts map bank location n e =
+    let rs = each (recordAt map) (visitsOf map (atLocation bank location)) in
+    ap (λ (w : Why). heldOr (Missing w) rs bank location) (sym (carried-why bank location rs))
+    ∙ ap (holder-in bank location Absent) (seen-start map (atLocation bank location) n e)
 
-pub holder-ends : (map : List ℕ) (bank location low high : ℕ) → high ≤ low
-    → holder-in bank location (seen map (atLocation bank location) low high) ≡ Nothing
-unfolding holder
-holder-ends map bank location low high h = rw (seen-end map (atLocation bank location) low high h)
+pub holder-ends : (map : List ℕ) (bank location low high : ℕ) (w : Why) → high ≤ low
+    → holder-in bank location w (seen map (atLocation bank location) low high) ≡ Missing w
+holder-ends map bank location low high w h = rw (seen-end map (atLocation bank location) low high h)
 
 -- a bank's records
 abbrev pub mapped-in : ℕ → List Record → Bool

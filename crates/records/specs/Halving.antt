@@ -10,6 +10,8 @@ use Rattle.records.specs.Map.{recordAt, mapped}
 use Rattle.records.specs.Lookup.{holds, holder}
 use Rattle.records.specs.declared.record.Record.{Record}
 use Rattle.records.specs.declared.holder.Found.{Found}
+use Rattle.records.specs.declared.holder.Why.{Why}
+use Rattle.records.specs.declared.holder.Why.the-variants.{Absent, Hole, Past}
 
 -- what is sought, against a record: it is here, or on the left; else on the right
 pub record Sought : Type 0 where
@@ -55,7 +57,12 @@ visitsOf map sought = visits map sought (length map / 8) 0 (length map / 8)
 unfoldable pub visited : List ℕ → ℕ → ℕ → List ℕ
 visited map bank location = visitsOf map (atLocation bank location)
 
--- what halving finds: of the records that it visits, the one that holds the location
+-- why no record holds a location, by the neighbours of the gap: the bank below it, the bank above it and the first location
+-- there; 256 is no bank
+unfoldable pub beside : ℕ → ℕ → ℕ → ℕ → Why
+beside bank below above next = if eqb above bank then Hole next else if eqb below bank then Past else Absent
+
+-- what halving finds: of the records that it visits, the one that holds the location, or why none of them does
 unfoldable pub halved : List ℕ → ℕ → ℕ → Found
 halved map bank location = holder (each (recordAt map) (visited map bank location)) bank location
 

@@ -12,10 +12,12 @@ use Rattle.records.specs.Map.{recordAt, recordsOf, mapped}
 use Rattle.records.specs.Order.{ordered, orderTests, orderNumber}
 use Rattle.records.specs.Lookup.{holds, holder, beginner}
 use Rattle.records.specs.Halving.{Sought, visits, visitsOf, halved, halvedBank}
-use Rattle.records.specs.Facts.{Member, FieldsHold, Before, Holds}
+use Rattle.records.specs.Facts.{Member, FieldsHold, Before, Holds, Says}
 use Rattle.records.specs.declared.record.Record.{Record}
 use Rattle.records.specs.declared.holder.Beginning.the-variants.{Begins}
-use Rattle.records.specs.declared.holder.Found.the-variants.{At, Nothing}
+use Rattle.records.specs.declared.holder.Found.{Found}
+use Rattle.records.specs.declared.holder.Found.the-variants.{At, Missing}
+use Rattle.records.specs.declared.holder.Why.{Why}
 
 -- The numbers.
 
@@ -47,11 +49,12 @@ HolderHit =
     (map : List ℕ) → ordered map ≡ true → (bank location : ℕ) (r : Record) → Member r map → Holds r bank location
     → holder (recordsOf map) bank location ≡ At r
 
--- nothing is found exactly if no record holds it
+-- it is missing exactly if no record holds it
 abbrev pub HolderNone : Type 0
 HolderNone =
     (map : List ℕ) (bank location : ℕ)
-    → (holder (recordsOf map) bank location ≡ Nothing) ↔ ((r : Record) → Member r map → holds r bank location ≡ false)
+    → ((w : Why) × (holder (recordsOf map) bank location ≡ Missing w))
+    ↔ ((r : Record) → Member r map → holds r bank location ≡ false)
 
 -- a record is found at its first location, and begins there
 abbrev pub FirstFound : Type 0
@@ -64,6 +67,20 @@ abbrev pub MappedMember : Type 0
 MappedMember =
     (map : List ℕ) (bank : ℕ)
     → (mapped (recordsOf map) bank ≡ true) ↔ ((r : Record) × Member r map × (r .bank ≡ bank))
+
+-- Why a location is missing. Paper 02, Item 4.
+
+-- the look-up gives an answer exactly if what that answer says is so
+abbrev pub FoundExactly : Type 0
+FoundExactly =
+    (map : List ℕ) → ordered map ≡ true → (bank location : ℕ) (f : Found)
+    → (holder (recordsOf map) bank location ≡ f) ↔ Says map bank location f
+
+-- one of the four answers is always so, and no two are
+abbrev pub OneAnswer : Type 0
+OneAnswer =
+    (map : List ℕ) → ordered map ≡ true → (bank location : ℕ)
+    → (f : Found) × Says map bank location f × ((g : Found) → Says map bank location g → g ≡ f)
 
 -- Halving. Paper 02, Item 3: every answer stays what it was.
 

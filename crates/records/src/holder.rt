@@ -1,19 +1,27 @@
-// Which record holds a location, and which value begins there.
+// Which record holds a location, or why none does; and which value begins there.
 ghost use mathlib.Core.Path.{_≡_};
 ghost use mathlib.Core.Bool.{true};
 ghost use Prim.Native.Nat.{_≤_};
 ghost use Rattle.records.specs.Map.{recordsOf, mapped};
 ghost use Rattle.records.specs.Order.{ordered};
 ghost use Rattle.records.specs.Lookup.{holds, holder, beginner};
-ghost use Rattle.records.specs.Halving.{atLocation, middle, halved, halvedBank};
+ghost use Rattle.records.specs.Halving.{atLocation, middle, beside, halved, halvedBank};
 use crate::record::Record;
 use crate::record::locations_end;
 use crate::record::record_at;
 use crate::record::records;
 
+// Why no record holds a location: the bank is absent; a hole, with the next mapped location in that bank; or past the
+// bank's last one.
+pub enum Why {
+    Absent,
+    Hole(u8),
+    Past,
+}
+
 pub enum Found {
     At(Record),
-    Nothing,
+    Missing(Why),
 }
 
 pub enum Beginning {
@@ -44,12 +52,31 @@ fn middle_of(low: usize, high: usize) -> usize
     low + (high - low) / 2
 }
 
-// Halving, of any map.
+// Why no record holds a location, by the neighbours of the gap: the bank below it, the bank above it and the first location
+// there. 256 is no bank.
+fn reason(bank: u8, below: usize, above: usize, next: u8) -> Why
+    ensures { λ w. ⌜ w ≡ beside bank below above next ⌝ }
+{
+    if above == bank as usize {
+        return Why::Hole(next);
+    }
+    if below == bank as usize {
+        return Why::Past;
+    }
+    Why::Absent
+}
+
+// Internal: halving. The map has passed 7, 8 and 9. The reason is carried on the way: the last record that lay right of the
+// location and the last that lay left of it are the neighbours of the gap.
 fn halve(map: &[u8], bank: u8, location: u8) -> Found
+    requires { ⌜ ordered (now map) ≡ true ⌝ }
     ensures { λ r. ⌜ r ≡ halved (now (map .entry)) bank location ⌝ }
 {
     let mut low = 0;
     let mut high = records(map);
+    let mut below = 256;
+    let mut above = 256;
+    let mut next = 0;
     while low < high {
         let m = middle_of(low, high);
         let r = record_at(map, m);
@@ -58,11 +85,14 @@ fn halve(map: &[u8], bank: u8, location: u8) -> Found
         }
         if lies_left(r, bank, location) {
             high = m;
+            above = r.bank as usize;
+            next = r.first;
         } else {
             low = m + 1;
+            below = r.bank as usize;
         }
     }
-    Found::Nothing
+    Found::Missing(reason(bank, below, above, next))
 }
 
 // Halving by the bank alone, of any map.
@@ -86,7 +116,7 @@ fn halve_bank(map: &[u8], bank: u8) -> bool
     false
 }
 
-// Internal: the record that holds the location. The map has passed 7, 8 and 9.
+// Internal: the record that holds the location, or why none does. The map has passed 7, 8 and 9.
 pub fn lookup(map: &[u8], bank: u8, location: u8) -> Found
     requires { ⌜ ordered (now map) ≡ true ⌝ }
     ensures { λ r. ⌜ r ≡ holder (recordsOf (now (map .entry))) bank location ⌝ }
@@ -105,7 +135,7 @@ pub fn value_at(map: &[u8], bank: u8, location: u8) -> Beginning
         } else {
             Beginning::NoValue
         },
-        Found::Nothing => Beginning::NoValue,
+        Found::Missing(_) => Beginning::NoValue,
     }
 }
 

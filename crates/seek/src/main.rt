@@ -22,7 +22,7 @@ fn counted(tally: Tally, found: Found) -> Tally {
             found: std::num::wrapping_add_u64(tally.found, 1),
             checksum: std::num::wrapping_add_u64(thrice, r.offset as u64),
         },
-        Found::Nothing => Tally {
+        Found::Missing(_) => Tally {
             found: tally.found,
             checksum: thrice,
         },

@@ -57,7 +57,7 @@ fn show_step(
     ensures { λ r. ⌜ r ≤ length (now (page .entry)) ⌝ }
 {
     let same = check::same(seen, &seen_of(store));
-    let line = say_step(Line::new(), bytes, was, step, same);
+    let line = say_step(Line::new(), map, bytes, was, step, same);
     let end = put_line(page, 0, line);
     if same {
         return end;

@@ -2,6 +2,7 @@
 ghost use Prim.Native.Nat.{_≤_};
 use crate::changes::say_changes;
 use crate::column::tell;
+use crate::reach::say_missed;
 use entries::Entry;
 use entries::entry_at;
 use entries::four_bytes;
@@ -80,14 +81,26 @@ fn frame_of(record: &[u8; 8]) -> u32 {
     four_bytes(record[4], record[5], record[6], record[7])
 }
 
-// A record, what was answered, and what it did to a unit in that state: by its step, and whether the store is the same.
-pub fn say_step(line: Line, record: &[u8; 8], was: State, step: Step, same: bool) -> Line
+// A record, what was answered, and what it did to a unit in that state: by its step, and whether the store is the same. Last, of
+// a read or a write that was not answered, why nothing stands there.
+pub fn say_step(
+    line: Line,
+    map: &[u8],
+    record: &[u8; 8],
+    was: State,
+    step: Step,
+    same: bool,
+) -> Line
     ensures { λ r. ⌜ line .length ≤ r .length ⌝ }
 {
     let is = step.state;
     let said = say_record(line, record, was.who);
     let answered = say_answer(said, step.answered, step.answer);
-    say_changes(answered, was, is, frame_of(record), step.width, same)
+    let told = say_changes(answered, was, is, frame_of(record), step.width, same);
+    if step.answered {
+        return told;
+    }
+    say_missed(told, map, was.who, was.registers, frame_of(record))
 }
 
 // A value that is the same now.

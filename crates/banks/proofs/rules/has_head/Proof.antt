@@ -15,7 +15,7 @@ returns c =
 
 returns-2 : tie.Need-returns-2
 returns-2 c =
-    sym (has-none isHead 0x00 single-head _ _ (sym (c .before .before .lookup .ensures) ∙ c .enum-told .given .1))
+    sym (has-none isHead 0x00 single-head _ _ _ (sym (c .before .before .lookup .ensures) ∙ c .enum-told .given .1))
 
 pub has-head-spec : {M : Type 1} → statement M
 has-head-spec =

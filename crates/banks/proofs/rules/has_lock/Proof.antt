@@ -15,7 +15,7 @@ returns c =
 
 returns-2 : tie.Need-returns-2
 returns-2 c =
-    sym (has-none isLock 0x02 single-lock _ _ (sym (c .before .before .lookup .ensures) ∙ c .enum-told .given .1))
+    sym (has-none isLock 0x02 single-lock _ _ _ (sym (c .before .before .lookup .ensures) ∙ c .enum-told .given .1))
 
 pub has-lock-spec : {M : Type 1} → statement M
 has-lock-spec =

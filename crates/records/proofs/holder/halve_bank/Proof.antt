@@ -23,7 +23,7 @@ returns c =
     let bank = middled .before .before .before .before .before .args .bank in
     let here = eq-eqb _ _ (c .if1 .taken) in
     mapped-has bank (c .before .before .record-at .result) here
-    ∙ stops _ (inBank _) (mapped-in _) (mapped-skips _) (middled .before .before .loop .inv .1)
+    ∙ stops _ (inBank _) (mapped-in _) (middled .before .before .loop .inv .1)
     (middled .before .loop-test .taken) (middled .middle-of .ensures) (c .before .before .record-at .ensures) here
 
 loop-again : tie.Need-loop-again Inv-loop μ-loop
@@ -31,7 +31,7 @@ loop-again c =
     let got = c .before .before .before .before in
     let middled = got .before in (
       omega arith,
-      goes-left _ (inBank _) (mapped-in _) (mapped-skips _) (middled .before .before .loop .inv .1)
+      goes-left _ (inBank _) (mapped-in _) (mapped-in _) (mapped-skips _ (got .record-at .result)) (middled .before .before .loop .inv .1)
           (middled .before .loop-test .taken) (middled .middle-of .ensures) (got .record-at .ensures)
           (ne-eqb _ _ (c .before .before .if1 .left)) (lt-ltb _ _ (c .if2 .taken)),
     )
@@ -41,7 +41,7 @@ loop-again-2 c =
     let got = c .before .before .before .before in
     let middled = got .before in (
       middled .before .before .loop .inv .0,
-      goes-right _ (inBank _) (mapped-in _) (mapped-skips _) (middled .before .before .loop .inv .1)
+      goes-right _ (inBank _) (mapped-in _) (mapped-in _) (mapped-skips _ (got .record-at .result)) (middled .before .before .loop .inv .1)
           (middled .before .loop-test .taken) (middled .middle-of .ensures) (got .record-at .ensures)
           (ne-eqb _ _ (c .before .before .if1 .left)) (le-ltb _ _ (c .if2 .left)),
     )

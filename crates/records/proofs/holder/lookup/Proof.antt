@@ -7,5 +7,5 @@ use Rattle.records.proofs.holder.lookup.Tie as tie
 
 pub lookup-spec : {M : Type 1} → statement M
 lookup-spec = tie.close (tie.spec
-    (λ c κs. tt)
+    (λ c κs. c .before .pre)
     (λ c. c .halve .ensures ∙ halving-finds _ (c .before .before .pre) _ _))

@@ -1,0 +1,38 @@
+// The find call: 7, 8, 9, then the look-up's answer.
+ghost use mathlib.Core.Path.{_≡_};
+ghost use Rattle.finds.specs.Find.{refusedFind};
+ghost use Rattle.finds.specs.Promises.{FindPromise};
+use records::Found;
+use records::Why;
+use records::lookup;
+use records::order_number;
+
+pub struct Finding {
+    pub number: u8,
+    pub found: Found,
+}
+
+// A refusal's answer is that the bank is absent.
+fn refused(number: u8) -> Finding
+    ensures { λ r. ⌜ r ≡ refusedFind number ⌝ }
+{
+    Finding {
+        number: number,
+        found: Found::Missing(Why::Absent),
+    }
+}
+
+// Which value holds the location, or why none does.
+pub fn find(map: &[u8], bank: u8, location: u8) -> Finding
+    ensures { λ r. ⌜ FindPromise (now (map .entry)) bank location r ⌝ }
+{
+    let number = order_number(map);
+    if number != 0 {
+        return refused(number);
+    }
+    let found = lookup(map, bank, location);
+    Finding {
+        number: 0,
+        found: found,
+    }
+}
