@@ -1,10 +1,10 @@
 /* Mirtofalko: settings in lighting units (IEC 62386-103), for C99 and later and for C++11 and later.
  *
  *   State of a unit   96 bytes
- *   Stack             at most 2,048 bytes for any call. Measured on x86-64: mf_check 128, mf_start 336, mf_frame 944,
- *                     mf_power_on 880, mf_run 1568, mf_look 160, mf_find 80, mf_read 288, mf_write 40, mf_compose_event 56,
+ *   Stack             at most 2,048 bytes for any call. Measured on x86-64: mf_check 160, mf_start 368, mf_frame 928,
+ *                     mf_power_on 880, mf_run 1552, mf_look 192, mf_find 80, mf_read 288, mf_write 40, mf_compose_event 56,
  *                     mf_compose_power 24 bytes
- *   Code              about 22,300 bytes with its constants on x86-64
+ *   Code              about 22,900 bytes with its constants on x86-64
  *   Needs             memcpy, and nothing else: no heap, no file, no initialisation
  *   Re-entrant        every call: it keeps nothing of its own, and it returns. One unit is stepped by one thread at a
  *                     time; different units, and calls without a unit, need no lock between them
@@ -38,7 +38,7 @@
 #include <stdint.h>
 
 /* The interface counts up where a call, an answer or the state's bytes change; then you compile anew. */
-#define MF_INTERFACE 4
+#define MF_INTERFACE 5
 #define MF_VERSION "1.0"
 #define MF_VERSION_MAJOR 1
 #define MF_VERSION_MINOR 0
@@ -147,9 +147,10 @@ static inline uint8_t mf_answer(uint32_t answer) { return (uint8_t)(answer >> 16
 static inline uint32_t mf_width(uint32_t look) { return look >> 8 & 0xFF; }
 static inline uint32_t mf_offset(uint32_t look) { return look >> 16; }
 
-/* Of mf_find: number | what << 8 | location << 16 | width << 24; the 32 bits above are 0 in this interface. mf_what is one
- * of these. mf_place: of MF_FOUND the value's first location, of MF_HOLE the next mapped location in that bank, else 0.
- * mf_place_width: of MF_FOUND the value's width, else 0. */
+/* Of mf_find: number | what << 8 | location << 16 | width << 24 | count << 32. mf_what is one of these. mf_place: of MF_FOUND
+ * the value's first location, of MF_HOLE the next mapped location in that bank, else 0. mf_place_width: of MF_FOUND the
+ * value's width, else 0. mf_count: how many records of the map were examined: at most 7, at most 6 where it has fewer than 64, at
+ * most 5 where it has fewer than 32 and so on, 0 where it has none. */
 enum {
     MF_FOUND = 0,  /* a value holds the location */
     MF_ABSENT = 1, /* no value lies in the bank */
@@ -159,6 +160,7 @@ enum {
 static inline uint32_t mf_what(uint64_t find) { return (uint32_t)(find >> 8 & 0xFF); }
 static inline uint32_t mf_place(uint64_t find) { return (uint32_t)(find >> 16 & 0xFF); }
 static inline uint32_t mf_place_width(uint64_t find) { return (uint32_t)(find >> 24 & 0xFF); }
+static inline uint32_t mf_count(uint64_t find) { return (uint32_t)(find >> 32 & 0xFF); }
 
 /* Of mf_write, mf_compose_event, mf_compose_power: number | frame << 8. */
 static inline uint32_t mf_frame_of(uint32_t written) { return written >> 8; }
@@ -231,7 +233,7 @@ uint32_t mf_look(const uint8_t *map, size_t map_length, const uint8_t *store, si
                  uint32_t location);
 
 /* Which value of the map holds the location, or why none does: the bank is absent, the location lies in a hole, or past the
- * bank's last mapped location. The map alone decides; there is neither store nor image.
+ * bank's last mapped location; and how many records were examined. The map alone decides; there is neither store nor image.
  * 7, 8, 9, then 6 for a bank or location over 255. */
 uint64_t mf_find(const uint8_t *map, size_t map_length, uint32_t bank, uint32_t location);
 

@@ -30,13 +30,20 @@ Value record_at(const Lent *lent, size_t index)
     return value;
 }
 
+/* A record holds the locations of its bank from its first one on, as many as
+   its width. */
+static bool holds(const Value *value, uint32_t bank, uint32_t location)
+{
+    return value->bank == bank && location >= value->first
+           && location - value->first < value->width;
+}
+
 bool value_holding(const Lent *lent, uint32_t bank, uint32_t location,
                    Value *value)
 {
     for (size_t i = 0; i < record_count(lent); i++) {
         Value found = record_at(lent, i);
-        if (found.bank == bank && location >= found.first
-            && location - found.first < found.width) {
+        if (holds(&found, bank, location)) {
             *value = found;
             return true;
         }
@@ -316,14 +323,62 @@ static uint64_t found_answer(uint32_t what, uint8_t location, uint8_t width)
            | (uint64_t)width << 24;
 }
 
-/* Bank absent, hole with the next mapped location in that bank, or past the
-   bank's last one. There is no store: 10 and 11 are not tested. */
+/* The value that holds a location, or why none does: bank absent, hole with
+   the next mapped location in that bank, or past the bank's last one. */
+static uint64_t find_by_walk(const Lent *lent, uint32_t bank,
+                             uint32_t location)
+{
+    Value value;
+    uint8_t next = 0;
+    if (value_holding(lent, bank, location, &value)) {
+        return found_answer(FOUND, value.first, value.width);
+    }
+    if (!bank_mapped(lent, (uint8_t)bank)) {
+        return found_answer(ABSENT, 0, 0);
+    }
+    if (next_mapped(lent, bank, location, &next)) {
+        return found_answer(HOLE, next, 0);
+    }
+    return found_answer(PAST, 0, 0);
+}
+
+/* (bank, location) is below a record's (bank, first location): by bank, then
+   by location. */
+static bool below(uint32_t bank, uint32_t location, const Value *value)
+{
+    return bank < value->bank
+           || (bank == value->bank && location < value->first);
+}
+
+/* How many record positions the halving visits. It serves the count alone:
+   nothing is found by it. */
+static uint32_t positions_visited(const Lent *lent, uint32_t bank,
+                                  uint32_t location)
+{
+    size_t low = 0;                   /* the first position that is left */
+    size_t high = record_count(lent); /* the one behind the last */
+    uint32_t count = 0;
+    while (low < high) {
+        size_t middle = low + (high - low) / 2;
+        Value value = record_at(lent, middle);
+        count++;
+        if (holds(&value, bank, location)) {
+            return count;
+        }
+        if (below(bank, location, &value)) {
+            high = middle;
+        } else {
+            low = middle + 1;
+        }
+    }
+    return count;
+}
+
+/* There is no store: 10 and 11 are not tested. */
 uint64_t second_find(const uint8_t *map, size_t map_len, uint32_t bank,
                      uint32_t location)
 {
     const Lent lent = {map, map_len, NULL, 0, NULL, NULL};
-    Value value;
-    uint8_t next = 0;
     uint32_t number = check_map(&lent);
     if (number != 0) {
         return number;
@@ -331,14 +386,6 @@ uint64_t second_find(const uint8_t *map, size_t map_len, uint32_t bank,
     if (bank > 0xFF || location > 0xFF) {
         return FIELD_OUT_OF_RANGE;
     }
-    if (value_holding(&lent, bank, location, &value)) {
-        return found_answer(FOUND, value.first, value.width);
-    }
-    if (!bank_mapped(&lent, (uint8_t)bank)) {
-        return found_answer(ABSENT, 0, 0);
-    }
-    if (next_mapped(&lent, bank, location, &next)) {
-        return found_answer(HOLE, next, 0);
-    }
-    return found_answer(PAST, 0, 0);
+    return find_by_walk(&lent, bank, location)
+           | (uint64_t)positions_visited(&lent, bank, location) << 32;
 }

@@ -469,58 +469,125 @@ static const uint8_t beside_map[] = {
     4, 0x05, 2, 0, 0, 0, 0, 0, 4, 0x10, 1, 0, 0, 0, 0, 2,
     5, 0x08, 1, 0, 0, 0, 0, 3, 5, 0xF7, 8, 0, 0, 0, 0, 4};
 
+static Bench beside_bench(void)
+{
+    Bench bench = {0};
+    memcpy(bench.map, beside_map, sizeof beside_map);
+    bench.map_len = sizeof beside_map;
+    return bench;
+}
+
+/* A map of 0 to 64 records, eight of them in every third bank: position p has
+   first location 0x20 * (p % 8) + 8 and width p % 8 + 1. */
+static Bench rising_bench(uint8_t records)
+{
+    Bench bench = {0};
+    bench.map_len = records * 8u;
+    for (uint8_t p = 0; p < records; p++) {
+        bench.map[p * 8] = (uint8_t)(p / 8 * 3);
+        bench.map[p * 8 + 1] = (uint8_t)(p % 8 * 0x20 + 8);
+        bench.map[p * 8 + 2] = (uint8_t)(p % 8 + 1);
+    }
+    return bench;
+}
+
 /* An answer, from high to low: width, location, what, number. */
-static const uint64_t absent = 0x00000100;
-static const uint64_t past = 0x00000300;
+enum { ABSENT_ANSWER = 0x00000100, PAST_ANSWER = 0x00000300 };
+
+/* A place, its answer and how many records are visited for it. */
+typedef struct Find {
+    uint32_t bank;
+    uint32_t location;
+    uint64_t answer;
+    uint64_t count;
+    const char *what;
+} Find;
 
 static uint64_t find(const Bench *bench, uint32_t bank, uint32_t location)
 {
     return second_find(bench->map, bench->map_len, bank, location);
 }
 
-static void find_in_sheet(void)
+static void expect_finds(const Bench *bench, const Find *finds, size_t count)
 {
-    Bench bench = sheet_bench();
-    expect(find(&bench, 2, 0x00) == 0x01000000, "find 0x00");
-    expect(find(&bench, 2, 0x01) == 0x00020200, "a hole, the next is 0x02");
-    expect(find(&bench, 2, 0x02) == 0x01020000, "find 0x02");
-    expect(find(&bench, 2, 0x03) == 0x04030000, "find a first location");
-    expect(find(&bench, 2, 0x04) == 0x04030000, "find inside a value");
-    expect(find(&bench, 2, 0x05) == 0x04030000, "find further inside");
-    expect(find(&bench, 2, 0x06) == 0x04030000, "find a last location");
-    expect(find(&bench, 2, 0x07) == past, "past the bank's last one");
-    expect(find(&bench, 2, 0xFF) == past, "0xFF is past");
-    expect(find(&bench, 1, 0x00) == absent, "bank 1 is absent");
-    expect(find(&bench, 3, 0x03) == absent, "bank 3 is absent");
-    expect(find(&bench, 0, 0x02) == absent, "bank 0 is absent");
-    expect(find(&bench, 200, 0x00) == absent, "bank 200 is absent");
-    expect(find(&bench, 255, 0xFF) == absent, "bank 255 is absent");
+    for (size_t i = 0; i < count; i++) {
+        expect(find(bench, finds[i].bank, finds[i].location)
+                   == (finds[i].count << 32 | finds[i].answer),
+               finds[i].what);
+    }
 }
 
-static uint64_t find_beside(uint32_t bank, uint32_t location)
+/* Three records: position 1 is visited, then 0 or 2. */
+static void find_in_sheet(void)
 {
-    return second_find(beside_map, sizeof beside_map, bank, location);
+    static const Find finds[] = {
+        {2, 0x00, 0x01000000, 2, "find 0x00"},
+        {2, 0x01, 0x00020200, 2, "a hole, the next is 0x02"},
+        {2, 0x02, 0x01020000, 1, "find 0x02"},
+        {2, 0x03, 0x04030000, 2, "find a first location"},
+        {2, 0x04, 0x04030000, 2, "find inside a value"},
+        {2, 0x05, 0x04030000, 2, "find further inside"},
+        {2, 0x06, 0x04030000, 2, "find a last location"},
+        {2, 0x07, PAST_ANSWER, 2, "past the bank's last one"},
+        {2, 0xFF, PAST_ANSWER, 2, "0xFF is past"},
+        {1, 0x00, ABSENT_ANSWER, 2, "bank 1 is absent"},
+        {3, 0x03, ABSENT_ANSWER, 2, "bank 3 is absent"},
+        {0, 0x02, ABSENT_ANSWER, 2, "bank 0 is absent"},
+        {200, 0x00, ABSENT_ANSWER, 2, "bank 200 is absent"},
+        {255, 0xFF, ABSENT_ANSWER, 2, "bank 255 is absent"},
+    };
+    Bench bench = sheet_bench();
+    expect_finds(&bench, finds, sizeof finds / sizeof finds[0]);
 }
 
 /* A hole names no record of another bank, and what follows in another bank is
-   past too. */
+   past too. Four records: position 2 is visited, then 1 and perhaps 0, or 3. */
 static void find_beside_banks(void)
 {
-    expect(find_beside(4, 0x00) == 0x00050200, "a hole before all records");
-    expect(find_beside(4, 0x04) == 0x00050200, "just before all records");
-    expect(find_beside(4, 0x06) == 0x02050000, "inside the lower bank's value");
-    expect(find_beside(4, 0x07) == 0x00100200, "not the higher bank's 0x08");
-    expect(find_beside(4, 0x0F) == 0x00100200, "just before the bank's last");
-    expect(find_beside(4, 0x10) == 0x01100000, "the lower bank's last value");
-    expect(find_beside(4, 0x11) == past, "past, while a higher bank follows");
-    expect(find_beside(4, 0xFE) == past, "mapped in the higher bank only");
-    expect(find_beside(5, 0x00) == 0x00080200, "before the higher bank's all");
-    expect(find_beside(5, 0x05) == 0x00080200, "mapped in the lower bank only");
-    expect(find_beside(5, 0x09) == 0x00F70200, "a hole up to 0xF7");
-    expect(find_beside(5, 0xFE) == 0x08F70000, "the last location of all");
-    expect(find_beside(5, 0xFF) == past, "past the last location of all");
-    expect(find_beside(3, 0x05) == absent, "absent below");
-    expect(find_beside(6, 0x08) == absent, "absent above");
+    static const Find finds[] = {
+        {4, 0x00, 0x00050200, 3, "a hole before all records"},
+        {4, 0x04, 0x00050200, 3, "just before all records"},
+        {4, 0x06, 0x02050000, 3, "inside the lower bank's value"},
+        {4, 0x07, 0x00100200, 3, "not the higher bank's 0x08"},
+        {4, 0x0F, 0x00100200, 3, "just before the bank's last"},
+        {4, 0x10, 0x01100000, 2, "the lower bank's last value"},
+        {4, 0x11, PAST_ANSWER, 2, "past, while a higher bank follows"},
+        {4, 0xFE, PAST_ANSWER, 2, "mapped in the higher bank only"},
+        {5, 0x00, 0x00080200, 2, "before the higher bank's all"},
+        {5, 0x05, 0x00080200, 2, "mapped in the lower bank only"},
+        {5, 0x08, 0x01080000, 1, "the higher bank's first value"},
+        {5, 0x09, 0x00F70200, 2, "a hole up to 0xF7"},
+        {5, 0xFE, 0x08F70000, 2, "the last location of all"},
+        {5, 0xFF, PAST_ANSWER, 2, "past the last location of all"},
+        {3, 0x05, ABSENT_ANSWER, 3, "absent below"},
+        {6, 0x08, ABSENT_ANSWER, 2, "absent above"},
+    };
+    Bench bench = beside_bench();
+    expect_finds(&bench, finds, sizeof finds / sizeof finds[0]);
+}
+
+/* 64 records. Positions 32, 16, 8, 4, 2, 1, 0 are visited down to the first,
+   32, 48, 56, 60, 62, 63 up to the last; 32, 16, 24, 20, 22, 21 for 21, and
+   32, 16, 8, 4, 6, 7 for what lies between 7 and 8. */
+static void find_among_64(void)
+{
+    static const Find finds[] = {
+        {0, 0x00, 0x00080200, 7, "before the first of 64"},
+        {0, 0x08, 0x01080000, 7, "the first of 64"},
+        {0, 0x09, 0x00280200, 7, "between the first two"},
+        {0, 0x29, 0x02280000, 6, "inside the second of 64"},
+        {0, 0xFF, PAST_ANSWER, 6, "past the eighth of 64"},
+        {1, 0x08, ABSENT_ANSWER, 6, "absent between two of 64"},
+        {6, 0x8D, 0x00A80200, 6, "between those of 20 and 21"},
+        {6, 0xA8, 0x06A80000, 6, "the record at 21"},
+        {12, 0x08, 0x01080000, 1, "the record at 32"},
+        {21, 0xE8, 0x08E80000, 6, "the last of 64"},
+        {21, 0xEF, 0x08E80000, 6, "the last location of 64"},
+        {21, 0xF0, PAST_ANSWER, 6, "past the last of 64"},
+        {22, 0x00, ABSENT_ANSWER, 6, "absent above 64"},
+    };
+    Bench bench = rising_bench(64);
+    expect_finds(&bench, finds, sizeof finds / sizeof finds[0]);
 }
 
 /* A place by a table of its bank's locations: the first location and the width
@@ -540,7 +607,7 @@ static uint64_t find_by_table(const Bench *bench, uint8_t bank,
         }
     }
     if (!present) {
-        return absent;
+        return ABSENT_ANSWER;
     }
     if (width[location] != 0) {
         return width[location] << 24 | first[location] << 16;
@@ -550,19 +617,53 @@ static uint64_t find_by_table(const Bench *bench, uint8_t bank,
             return next << 16 | 0x200;
         }
     }
-    return past;
+    return PAST_ANSWER;
+}
+
+/* The turn at which each position is visited, if it is: the middle one at the
+   first, those in the middle of its two sides at the next, and so on. */
+static void lay_turns(size_t low, size_t high, uint64_t turn, uint64_t *turns)
+{
+    if (low < high) {
+        size_t middle = (low + high) / 2;
+        turns[middle] = turn;
+        lay_turns(low, middle, turn + 1, turns);
+        lay_turns(middle + 1, high, turn + 1, turns);
+    }
+}
+
+/* The count by the turns: that of the record that holds the place. If none
+   does, both neighbours are visited, the later one last. */
+static uint64_t count_by_turns(const Bench *bench, uint8_t bank,
+                               uint8_t location)
+{
+    uint64_t turns[66] = {0}; /* position p at p + 1; 0 at both ends */
+    size_t before = 0;        /* records that begin there or before */
+    lay_turns(0, bench->map_len / 8, 1, turns + 1);
+    for (const uint8_t *r = bench->map; r < bench->map + bench->map_len;
+         r += 8) {
+        if (r[0] < bank || (r[0] == bank && r[1] <= location)) {
+            before++;
+        }
+        if (r[0] == bank && r[1] <= location && location < r[1] + r[2]) {
+            return turns[before];
+        }
+    }
+    return turns[before] > turns[before + 1] ? turns[before]
+                                             : turns[before + 1];
 }
 
 /* Every bank and location that a byte holds. */
 static unsigned places_unlike(const Bench *bench)
 {
     unsigned unlike = 0;
-    for (unsigned bank = 0; bank < 256; bank++) {
-        for (unsigned location = 0; location < 256; location++) {
-            if (find(bench, bank, location)
-                != find_by_table(bench, (uint8_t)bank, (uint8_t)location)) {
-                unlike++;
-            }
+    for (unsigned i = 0; i < 0x10000; i++) {
+        uint8_t bank = (uint8_t)(i >> 8);
+        uint8_t location = (uint8_t)i;
+        if (find(bench, bank, location)
+            != (count_by_turns(bench, bank, location) << 32
+                | find_by_table(bench, bank, location))) {
+            unlike++;
         }
     }
     return unlike;
@@ -574,17 +675,66 @@ static void find_every_place(void)
     expect(places_unlike(&bench) == 0, "every place of the bench sheet");
     bench = wide_bench();
     expect(places_unlike(&bench) == 0, "every place of three banks");
-    memcpy(bench.map, beside_map, sizeof beside_map);
-    bench.map_len = sizeof beside_map;
+    bench = beside_bench();
     expect(places_unlike(&bench) == 0, "every place of banks side by side");
-    bench.map_len = 0;
+    bench = rising_bench(64);
+    expect(places_unlike(&bench) == 0, "every place of 64 records");
+    bench = rising_bench(0);
     expect(places_unlike(&bench) == 0, "every place of an empty map");
-    expect(second_find(NULL, 0, 0, 0) == absent, "an empty map has no bank");
+    expect(second_find(NULL, 0, 0, 0) == ABSENT_ANSWER,
+           "an empty map has no bank, and no record is visited");
     expect(second_find(NULL, 0, 256, 0) == FIELD_OUT_OF_RANGE,
            "bank 256 of an empty map");
 }
 
-/* 7 to 9, then 6. */
+/* The least and the greatest count over all places. */
+typedef struct Counts {
+    uint64_t least;
+    uint64_t most;
+} Counts;
+
+static Counts counts_of(uint8_t records)
+{
+    Bench bench = rising_bench(records);
+    Counts counts = {UINT64_MAX, 0};
+    for (uint32_t i = 0; i < 0x10000; i++) {
+        uint64_t count = find(&bench, i >> 8, i & 0xFF) >> 32;
+        counts.least = count < counts.least ? count : counts.least;
+        counts.most = count > counts.most ? count : counts.most;
+    }
+    return counts;
+}
+
+/* The smallest k with n < 2^k. */
+static uint64_t bound_of(size_t records)
+{
+    uint64_t k = 0;
+    while (records >= (size_t)1 << k) {
+        k++;
+    }
+    return k;
+}
+
+/* At most 7 with 64 records and 0 with none; each bound is reached. */
+static void find_bounds(void)
+{
+    unsigned unlike = 0;
+    Counts counts = counts_of(0);
+    expect(counts.least == 0 && counts.most == 0, "no record: 0 always");
+    counts = counts_of(1);
+    expect(counts.least == 1 && counts.most == 1, "one record: 1 always");
+    expect(counts_of(32).most == 6, "32 records: at most 6");
+    expect(counts_of(63).most == 6, "63 records: at most 6");
+    expect(counts_of(64).most == 7, "64 records: at most 7");
+    for (uint8_t records = 0; records <= 64; records++) {
+        if (counts_of(records).most != bound_of(records)) {
+            unlike++;
+        }
+    }
+    expect(unlike == 0, "0 to 64 records: the smallest k with n < 2^k");
+}
+
+/* 7 to 9, then 6. Of 13 records 6, 10 and 12 are visited for the last. */
 static void find_refusals(void)
 {
     static const uint8_t long_map[520] = {0};
@@ -598,7 +748,8 @@ static void find_refusals(void)
     bench.store[0] = 0;
     bench.map[0 * 8 + 3] = 4;
     bench.map[12 * 8 + 7] = 0;
-    expect(check(&bench) == STORE_PLACES && find(&bench, 9, 0xFD) == 0x02FD0000,
+    expect(check(&bench) == STORE_PLACES
+               && find(&bench, 9, 0xFD) == (UINT64_C(3) << 32 | 0x02FD0000),
            "10 and 11 are not tested");
     bench.map[5 * 8 + 1] = 3;
     expect(find(&bench, 2, 3) == RECORD_ORDER, "find: 9");
@@ -1336,8 +1487,8 @@ static bool step_anything(Places *places)
            && (!places->accepted || result == FRAME_TOO_LARGE);
 }
 
-/* A find tests the map as all calls do, then 6, and a refusal is its number
-   alone. */
+/* A find tests the map as all calls do, then 6; a refusal is its number alone,
+   and an accepted one's count keeps its bound. */
 static bool find_anything(const Places *places)
 {
     uint32_t bank = any_number() % 260;
@@ -1353,7 +1504,8 @@ static bool find_anything(const Places *places)
     if (bank > 255 || location > 255) {
         return answer == FIELD_OUT_OF_RANGE;
     }
-    return (answer & 0xFF) == 0 && answer >> 32 == 0;
+    return (answer & 0xFF) == 0
+           && answer >> 32 <= bound_of(places->map_len / 8);
 }
 
 static bool run_any_list(void)
@@ -1393,9 +1545,10 @@ int main(void)
         bench_reader, bench_composer, bench_writing, read_and_write,
         writer_ranges, composer_ranges, as_shipped, check_fields, check_places,
         check_lengths, check_bank_rules, check_order, look_calls,
-        find_in_sheet, find_beside_banks, find_every_place, find_refusals,
-        start_calls, power_on_calls, idle_state_rules, waiting_state_rules,
-        staged_state_rules, latched_state_rules, order_of_step, packed_states,
+        find_in_sheet, find_beside_banks, find_among_64, find_every_place,
+        find_bounds, find_refusals, start_calls, power_on_calls,
+        idle_state_rules, waiting_state_rules, staged_state_rules,
+        latched_state_rules, order_of_step, packed_states,
         pairs_from_the_left, frames_between_halves, what_keeps_write_enable,
         writes_not_executed, writes_not_taken, staging_again, locks,
         banks_apart, every_width, reads, latch_and_writes, resets, addresses, groups,

@@ -93,13 +93,16 @@ uint32_t second_check(const uint8_t *map, size_t map_len, const uint8_t *store,
 uint32_t second_look(const uint8_t *map, size_t map_len, const uint8_t *store,
                      size_t store_len, uint32_t bank, uint32_t location);
 
-/* The find call: number | what << 8 | location << 16 | width << 24, by what:
+/* The find call: number | what << 8 | location << 16 | width << 24
+   | count << 32, by what:
      FOUND:  the first location and the width of the value that holds it
      ABSENT: no record has that bank; 0, 0
      HOLE:   the next mapped location in that bank; 0
      PAST:   every mapped location of that bank lies below; 0, 0
+   The count, whatever the answer: how many record positions the halving rule
+   visits, at most 7 with 64 records and 0 with none.
    It tests 7 to 9, then 6: a bank or location that no byte holds. A refusal is
-   its number alone. */
+   its number alone, its count 0. */
 uint64_t second_find(const uint8_t *map, size_t map_len, uint32_t bank,
                      uint32_t location);
 

@@ -67,7 +67,7 @@ enum Seen {
     RUN_WHOLE, RUN_OF_NONE, RUN_BY_ROOM, RUN_ENDED,
     START_NOT_CUT, LOOK_NOT_CUT, FIND_BANK_NOT_CUT, FIND_LOCATION_NOT_CUT, FIND_MAP_FIRST,
     FOUND_FIRST, FOUND_INSIDE, FOUND_ABSENT, FOUND_HOLE, HOLE_BEFORE_ALL, FOUND_PAST, PAST_BELOW_A_BANK,
-    FOUND_BY_MAP_ALONE, EVERY_PLACE,
+    FOUND_BY_MAP_ALONE, EXAMINED_NONE, EXAMINED_ONE, EXAMINED_7, EVERY_PLACE,
     SHIPPED_WITH_ADDRESS, SHIPPED_WITHOUT_ADDRESS,
     SEEN
 };
@@ -110,6 +110,9 @@ static const char *const seen_names[SEEN] = {
     [FOUND_PAST] = "finds past the bank's last location",
     [PAST_BELOW_A_BANK] = "finds past the bank's last location, and a higher bank follows",
     [FOUND_BY_MAP_ALONE] = "finds accepted where mf_check gives 10 or 11",
+    [EXAMINED_NONE] = "finds that examine no record",
+    [EXAMINED_ONE] = "finds that examine one record",
+    [EXAMINED_7] = "finds that examine 7 records",
     [EVERY_PLACE] = "finds at every bank and location of some maps",
     [SHIPPED_WITH_ADDRESS] = "events composed as shipped, with a short address",
     [SHIPPED_WITHOUT_ADDRESS] = "events composed as shipped, without a short address",
@@ -159,6 +162,8 @@ static void see_find(Lent *l, uint32_t bank, uint32_t at, uint64_t answer) {
     see(FOUND_ABSENT, what == MF_ABSENT);
     see(FOUND_HOLE, what == MF_HOLE), see(HOLE_BEFORE_ALL, what == MF_HOLE && !before);
     see(FOUND_PAST, what == MF_PAST), see(PAST_BELOW_A_BANK, what == MF_PAST && higher);
+    see(EXAMINED_NONE, mf_count(answer) == 0), see(EXAMINED_ONE, mf_count(answer) == 1);
+    see(EXAMINED_7, mf_count(answer) == 7);
 }
 
 /* ---- the calls of the unit ---- */
@@ -276,7 +281,7 @@ static void look_call(Lent *l, Kept *kept) {
 /* The answer that the header's names for its parts make. */
 static uint64_t answer_of_parts(uint64_t answer) {
     return (uint64_t)mf_number(answer) | (uint64_t)mf_what(answer) << 8 | (uint64_t)mf_place(answer) << 16
-           | (uint64_t)mf_place_width(answer) << 24;
+           | (uint64_t)mf_place_width(answer) << 24 | (uint64_t)mf_count(answer) << 32;
 }
 
 /* What makes a byte too large for one; often by the least that does. */
@@ -425,15 +430,21 @@ static void session(uint32_t steps) {
 
 /* ---- every place of a map ---- */
 
-/* Every bank and location that a byte holds. The map keeps 7 to 9. */
+/* The smallest k with n < 2^k. */
+static uint32_t bound(size_t n) { return n == 0 ? 0 : 1 + bound(n / 2); }
+
+/* Every bank and location that a byte holds. The map keeps 7 to 9. No place takes more records than the bound, and one as many. */
 static void every_place(const char *whose, const Lent *l) {
+    uint32_t most = 0;
     expect(whose, "refused by mf_find", 0, mf_number(mf_find(l->map, l->map_length, 0, 0)) == MF_OK);
     for (uint32_t place = 0; place < 65536; place++) {
         uint64_t ours = mf_find(l->map, l->map_length, place >> 8, place & 255);
         uint64_t theirs = second_find(l->map, l->map_length, place >> 8, place & 255);
         expect(whose, "mf_find has another answer at 256 x bank + location", place, ours == theirs);
+        if (mf_count(ours) > most) most = mf_count(ours);
         see(EVERY_PLACE, true);
     }
+    expect(whose, "the highest count is not the bound", most, most == bound(records(l)));
 }
 
 /* 64 records, so many to a bank, before each a hole; each bank has them a location further on than the one below it. */

@@ -16,14 +16,17 @@ use Rattle.composing.proofs.Settled.{settled as composing-settled}
 use Rattle.composing.proofs.Cases.{compose-cases}
 use Rattle.records.proofs.Ordered.{order-stands, order-numbers, order-settled}
 use Rattle.records.proofs.Missing.{one-answer}
+use Rattle.records.proofs.Visits.{visited-bound, visited-exactly, visited-most, visited-none, visited-below}
+use Rattle.records.proofs.Visits.{visited-distinct, visited-tells, answer-tells}
 use Rattle.records.proofs.Cases.{order-cases}
+use Rattle.records.proofs.HalvingCases.{count-cases}
 use Rattle.banks.proofs.Standing.{check-stands, check-numbers, check-settled}
 use Rattle.banks.proofs.Cases.{check-cases}
 use Rattle.looks.proofs.Looks.{look-shows, look-stands, look-empty, look-numbers, look-at-settled}
 use Rattle.looks.proofs.Looks.{look-number-settled, look-settled}
 use Rattle.looks.proofs.Cases.{look-cases}
 use Rattle.finds.proofs.Finds.{find-says, find-refuses, find-numbers, find-stands, find-shows, find-alone, find-settled}
-use Rattle.finds.proofs.Finds.{find-word-settled}
+use Rattle.finds.proofs.Finds.{find-most, find-word-settled}
 use Rattle.finds.proofs.Cases.{find-cases}
 use Rattle.entries.proofs.Cases.{cases as entries-cases}
 use Rattle.entries.proofs.Moved.{rest-kept, rest-settled}
@@ -79,7 +82,7 @@ use Rattle.faces.proofs.Cases.{cases as faces-cases}
 use Rattle.lifted.proofs.Demand.{demand-in-c, read-only-stay-in-c, accepts-as-unit}
 use Rattle.lifted.proofs.Following.{follows-unit}
 use Rattle.lifted.proofs.Each.{run-each, records-fit}
-use Rattle.claims.specs.Claims.{Frames, MapStoreImage, WhyMissing, StateClock, CommandsObeyed, CompleteWriting}
+use Rattle.claims.specs.Claims.{Frames, MapStoreImage, WhyMissing, Examined, StateClock, CommandsObeyed, CompleteWriting}
 use Rattle.claims.specs.Claims.{RefusalNumbers, TraceProgram, BenchSheet, ErrorsSeen, PlaceForms}
 use Rattle.claims.specs.Claims.{Judging, CLibrary, Claims}
 
@@ -122,6 +125,20 @@ why-missing = record {
   find-stands = find-stands;
   finds-come-back = find-shows;
   refused-find-is-its-number = find-alone;
+}
+
+examined : Examined
+examined = record {
+  find-examines-at-most-7 = find-most;
+  at-most-7 = visited-most;
+  none-of-none = visited-none;
+  at-most-k = visited-bound;
+  no-lower-bound = visited-exactly;
+  positions-of-records = visited-below;
+  none-twice = visited-distinct;
+  list-by-these-alone = visited-tells;
+  answer-by-these-alone = answer-tells;
+  count-boundaries = count-cases;
 }
 
 state-clock : StateClock
@@ -295,6 +312,7 @@ claims = record {
   frames = frames;
   map-store-image = map-store-image;
   why-missing = why-missing;
+  examined = examined;
   state-clock = state-clock;
   commands-obeyed = commands-obeyed;
   complete-writing = complete-writing;

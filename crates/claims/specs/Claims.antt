@@ -16,14 +16,17 @@ use Rattle.composing.specs.Refusals.{ComposerNumbers, PowerNumbers, Exactly as 
 use Rattle.composing.specs.Bench.{SheetHolds as ComposingSheetHolds}
 use Rattle.composing.specs.Cases.{ComposeCases}
 use Rattle.records.specs.Promises.{OrderStands, OrderNumbers, OrderSettled, OneAnswer}
+use Rattle.records.specs.Promises.{VisitedBound, VisitedExactly, VisitedMost, VisitedNone, VisitedBelow}
+use Rattle.records.specs.Promises.{VisitedDistinct, VisitedTells, AnswerTells}
 use Rattle.records.specs.Cases.{OrderCases}
+use Rattle.records.specs.HalvingCases.{CountCases}
 use Rattle.banks.specs.Promises.{CheckStands, CheckNumbers, CheckSettled}
 use Rattle.banks.specs.Cases.{CheckCases}
 use Rattle.looks.specs.Promises.{LookShows, LookStands, LookEmpty, LookNumbers, LookAtSettled, LookNumberSettled}
 use Rattle.looks.specs.Promises.{LookSettled}
 use Rattle.looks.specs.Cases.{LookCases}
 use Rattle.finds.specs.Promises.{FindSays, FindRefuses, FindNumbers, FindStands, FindShows, FindAlone, FindSettled}
-use Rattle.finds.specs.Promises.{FindWordSettled}
+use Rattle.finds.specs.Promises.{FindMost, FindWordSettled}
 use Rattle.finds.specs.Cases.{FindCases}
 use Rattle.entries.specs.Cases.{Cases as EntriesCases}
 use Rattle.entries.specs.Promises.{RestKept, EntrySettled, RestSettled, FourBytesSettled}
@@ -119,7 +122,7 @@ pub record MapStoreImage : Type 0 where
 
 pub record WhyMissing : Type 0 where
   -- "The lookup should say which: bank absent, hole with the next mapped location in that bank, or past the bank's last
-  -- one": each, and a value that holds it, exactly if
+  -- one": each, and a value that holds it, exactly if; and with it the count of Item 5
   pub find-says-which : FindSays
   -- of these four one is always so, and no two are
   pub one-answer : OneAnswer
@@ -135,6 +138,30 @@ pub record WhyMissing : Type 0 where
   pub finds-come-back : FindShows
   -- and a refusal is its number alone
   pub refused-find-is-its-number : FindAlone
+
+-- ---- How many records one lookup examines (paper 02, Item 5)
+
+pub record Examined : Type 0 where
+  -- "Report the count": a find does, `find-says-which`; "at most 7", whatever is handed in
+  pub find-examines-at-most-7 : FindMost
+  -- "the length of the list of record positions that the halving rule in your definition visits, at most 7 with 64 records"
+  pub at-most-7 : VisitedMost
+  -- "and 0 with none"
+  pub none-of-none : VisitedNone
+  -- of fewer than 2 ^ k records at most k
+  pub at-most-k : VisitedBound
+  -- and no lower bound holds of a map
+  pub no-lower-bound : VisitedExactly
+  -- each position is that of a record
+  pub positions-of-records : VisitedBelow
+  -- and none is visited twice
+  pub none-twice : VisitedDistinct
+  -- no other record is examined: where two maps agree at these positions, the list is the same
+  pub list-by-these-alone : VisitedTells
+  -- and so is the answer, with its reason
+  pub answer-by-these-alone : AnswerTells
+  -- of 64 records 7, and other counts, in one table
+  pub count-boundaries : CountCases
 
 -- ---- State and clock
 
@@ -440,6 +467,7 @@ pub record Claims : Type 1 where
   pub frames : Frames
   pub map-store-image : MapStoreImage
   pub why-missing : WhyMissing
+  pub examined : Examined
   pub state-clock : StateClock
   pub commands-obeyed : CommandsObeyed
   pub complete-writing : CompleteWriting

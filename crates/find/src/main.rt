@@ -1,10 +1,12 @@
-// Which value of a map holds a location, or why none does, in words. On standard input the bank and the location, two bytes
-// each, high first, and the map behind them.
-use finds::Finding;
+// Which value of a map holds a location, or why none does, and how many records were examined, in words. On standard input the
+// bank and the location, two bytes each, high first, and the map behind them.
 use libc::STDERR_FILENO;
 use libc::STDIN_FILENO;
 use libc::STDOUT_FILENO;
+use places::say_examined;
 use places::say_found;
+use records::Found;
+use records::records;
 use text::Line;
 use text::say_refusal;
 
@@ -38,18 +40,25 @@ fn refuse_over(map: &[u8], bank: u32, location: u32, words: &[u8]) {
     refuse(number);
 }
 
-fn show(bank: u8, location: u8, finding: Finding) {
-    if finding.number != 0 {
-        refuse(finding.number);
-        return;
-    }
-    let found = finding.found;
-    if !print(STDOUT_FILENO, say_found(Line::new(), bank, location, found)) {
+fn show(bank: u8, location: u8, found: Found, count: u8, records: u32) {
+    let there = print(STDOUT_FILENO, say_found(Line::new(), bank, location, found));
+    let examined = print(STDOUT_FILENO, say_examined(Line::new(), count, records));
+    if !(there & examined) {
         io::write_all(
             STDERR_FILENO,
             b"find: standard output cannot be written: the rest is lost\n",
         );
     }
+}
+
+fn find_byte(map: &[u8], bank: u8, location: u8) {
+    let finding = finds::find(map, bank, location);
+    if finding.number != 0 {
+        refuse(finding.number);
+        return;
+    }
+    let found = finding.found;
+    show(bank, location, found, finding.count, records(map) as u32);
 }
 
 fn find(map: &[u8], bank: u32, location: u32) {
@@ -61,8 +70,7 @@ fn find(map: &[u8], bank: u32, location: u32) {
         refuse_over(map, bank, location, b"the location is over 255");
         return;
     }
-    let finding = finds::find(map, bank as u8, location as u8);
-    show(bank as u8, location as u8, finding);
+    find_byte(map, bank as u8, location as u8);
 }
 
 // One byte more than the longest map has, so that a longer one is seen to be longer.

@@ -7,6 +7,7 @@ use Prim.Native.Nat.{ℕ, zero, suc, _+_, _*_, _^_, _≤_, _<_}
 use native.Mathlib.Omega.{arith}
 use borrow.Author.Tests.{leb-true, le-leb, lt-leb, ne-eqb}
 use lib.Dec.{leb}
+use lib.ListN.{length}
 use Rattle.laws.specs.Bits.{bits}
 use Rattle.laws.specs.Numbers.{Test, test, firstFailing}
 use Rattle.laws.proofs.Bits.{bits-is}
@@ -17,24 +18,44 @@ use Rattle.laws.proofs.Joined.{joined-none, joined-some}
 use Rattle.records.specs.Map.{recordsOf}
 use Rattle.records.specs.Order.{ordered, orderTests, orderNumber}
 use Rattle.records.specs.Lookup.{holder}
+use Rattle.records.specs.Halving.{visited, sought}
 use Rattle.records.specs.Facts.{Says}
 use Rattle.records.specs.declared.holder.Found.{Found}
 use Rattle.records.specs.declared.holder.Found.the-variants.{At, Missing}
+use Rattle.records.specs.declared.holder.Sought.{Sought}
 use Rattle.records.specs.declared.holder.Why.the-variants.{Absent, Hole, Past}
 use Rattle.records.proofs.Members.{member-fields}
-use Rattle.records.proofs.Ordered.{zero-ordered, ordered-zero}
+use Rattle.records.proofs.Ordered.{zero-ordered, ordered-zero, ordered-size, size-most}
+use Rattle.records.proofs.Halving.{halving-finds}
+use Rattle.records.proofs.Visits.{visited-most}
 use Rattle.records.proofs.Missing.{found-exactly}
-use Rattle.finds.specs.Find.{refusedFind, findOf, what, place, width, foundWord, findTests, findNumber, findWord}
+use Rattle.finds.specs.Find.{refusedFind, acceptedFind, findOf, what, place, width, foundWord, answerWord, findTests, findNumber, findWord}
 use Rattle.finds.specs.Find.{elseOutOfRange}
-use Rattle.finds.specs.Promises.{FindSays, FindRefuses, FindNumbers, FindStands, FindBack, FindShows, FindAlone}
+use Rattle.finds.specs.Promises.{FindSays, FindRefuses, FindMost, FindNumbers, FindStands, FindBack, FindShows, FindAlone}
 use Rattle.finds.specs.Promises.{FindSettled, FindWordSettled}
 use Rattle.finds.specs.declared.found.Finding.{Finding}
 
 -- 7 to 9 hold, or not
 pub find-found : (map : List ℕ) (bank location : ℕ) → orderNumber map ≡ 0
-    → findOf map bank location ≡ record { number = 0; found = holder (recordsOf map) bank location }
+    → findOf map bank location ≡ acceptedFind map bank location
 unfolding findOf
 find-found map bank location e = rw e
+
+-- what halving finds and counts is that answer
+pub find-sought : (map : List ℕ) → ordered map ≡ true → (bank location : ℕ) (s : Sought) → s ≡ sought map bank location
+    → record { number = 0; found = s .found; count = s .count } ≡ findOf map bank location
+unfolding sought
+find-sought map o bank location s e =
+    rw (e, halving-finds map o bank location) (sym (find-found map bank location (ordered-zero map o)))
+
+-- and the count is a byte
+pub sought-fits : (map : List ℕ) → ordered map ≡ true → (bank location : ℕ) (s : Sought) → s ≡ sought map bank location
+    → s .count ≤ 255
+unfolding sought
+sought-fits map o bank location s e =
+    let most = visited-most map (ordered-size map o) bank location in
+    let count = ap (λ (x : Sought). x .count) e in
+    omega arith
 
 pub find-refused : (map : List ℕ) (bank location n : ℕ) → orderNumber map ≡ n → (n ≡ 0 → ⊥)
     → findOf map bank location ≡ refusedFind n
@@ -47,10 +68,22 @@ find-says map o bank location f =
     let exactly = found-exactly map o bank location f in
     (λ q. exactly .0 (sym (ap (λ (x : Finding). x .found) e) ∙ ap (λ (x : Finding). x .found) q), λ s. e ∙ rw (exactly .1 s))
 
+pub find-most : FindMost
+unfolding findOf
+find-most map bank location =
+    if-eq (λ (x : Finding). x .count ≤ 7) (orderNumber map) 0
+    (λ e. visited-most map (ordered-size map (zero-ordered map e)) bank location)
+    (λ n. omega arith)
+
 of-number : (map : List ℕ) (bank location : ℕ) → findOf map bank location .number ≡ orderNumber map
 unfolding findOf
 of-number map bank location =
     if-eq (λ (f : Finding). f .number ≡ orderNumber map) (orderNumber map) 0 (λ e. sym e) (λ n. refl)
+
+-- an accepted map has at most 64 records
+pub found-size : (map : List ℕ) (bank location : ℕ) → findOf map bank location .number ≡ 0 → length map ≤ 512
+found-size map bank location e =
+    size-most (length map) (ordered-size map (zero-ordered map (sym (of-number map bank location) ∙ e)))
 
 pub find-refuses : FindRefuses
 find-refuses map bank location n h = (
@@ -92,7 +125,7 @@ module _ (map : List ℕ) (bank location : ℕ) where
   unfolding findWord
   word-refused n h e = rw (e, ne-eqb n 0 (λ z. absurd (omega arith)))
 
-  word-found : findNumber map bank location ≡ 0 → findWord map bank location ≡ foundWord (holder (recordsOf map) bank location)
+  word-found : findNumber map bank location ≡ 0 → findWord map bank location ≡ answerWord (acceptedFind map bank location)
   unfolding findWord
   word-found e = rw e
 
@@ -103,11 +136,12 @@ module _ (map : List ℕ) (bank location : ℕ) where
       let n = ap (λ (x : Finding). x .number) e ∙ of-number map bank location in
       sym (word-refused (r .number) (omega arith) (number-refused (r .number) (omega arith) (sym n)))
 
-  pub word-is : (r : Finding) (w : ℕ) → r ≡ findOf map bank location → r .number ≡ 0 → bank ≤ 255 → location ≤ 255
-      → w ≡ foundWord (r .found) → w ≡ findWord map bank location
-  word-is r w e z b l q =
+  pub word-is : (r : Finding) (v w : ℕ) → r ≡ findOf map bank location → r .number ≡ 0 → bank ≤ 255 → location ≤ 255
+      → v ≡ foundWord (r .found) → w ≡ v + r .count * 2 ^ 32
+      → w ≡ findWord map bank location
+  word-is r v w e z b l p q =
       let n : orderNumber map ≡ 0 = sym (of-number map bank location) ∙ sym (ap (λ (x : Finding). x .number) e) ∙ z in
-      q ∙ ap (λ (x : Finding). foundWord (x .found)) (e ∙ find-found map bank location n)
+      q ∙ ap (λ (k : ℕ). k + r .count * 2 ^ 32) p ∙ ap answerWord (e ∙ find-found map bank location n)
       ∙ sym (word-found (number-none n b l))
 
   word-else : (n : ℕ) → n ≡ elseOutOfRange map → (leb bank 255 && leb location 255) ≡ false
@@ -163,16 +197,29 @@ fits map o bank location (Missing (Hole n)) s =
     (omega arith, omega arith, omega arith)
 fits map o bank location (Missing Past) s = (omega arith, omega arith, omega arith)
 
-parts : (w x y z : ℕ) (f : Found) → w ≡ x * 2 ^ 8 + y * 2 ^ 16 + z * 2 ^ 24 → x ≡ what f → y ≡ place f → z ≡ width f
-    → x < 2 ^ 8 → y < 2 ^ 8 → z < 2 ^ 8
-    → FindBack w 0 f
-parts w x y z f e a b c p q r =
+-- and so does the whole of it
+pub answer-fits : (map : List ℕ) (bank location : ℕ) (r : Finding) (w : ℕ) → r ≡ findOf map bank location → r .number ≡ 0
+    → w ≡ foundWord (r .found) → w < 2 ^ 32
+unfolding foundWord
+answer-fits map bank location r w e z q =
+    let o = zero-ordered map (sym (of-number map bank location) ∙ sym (ap (λ (x : Finding). x .number) e) ∙ z) in
+    let f = r .found in
+    let found = sym (ap (λ (x : Finding). x .found) (e ∙ find-found map bank location (ordered-zero map o))) in
+    let small = fits map o bank location f (found-exactly map o bank location f .0 found) in
+    omega arith
+
+parts : (w x y z n : ℕ) (f : Finding) → w ≡ x * 2 ^ 8 + y * 2 ^ 16 + z * 2 ^ 24 + n * 2 ^ 32 → f .number ≡ 0
+    → x ≡ what (f .found) → y ≡ place (f .found) → z ≡ width (f .found) → n ≡ f .count
+    → x < 2 ^ 8 → y < 2 ^ 8 → z < 2 ^ 8 → n < 2 ^ 8
+    → FindBack w f
+parts w x y z n f e d a b c g p q r s =
     record {
-      number = bits-is w 7 0 (x + y * 2 ^ 8 + z * 2 ^ 16) 0 0 (omega arith) (omega arith) (omega arith);
-      what = bits-is w 15 8 (y + z * 2 ^ 8) x 0 (omega arith) p (omega arith) ∙ a;
-      place = bits-is w 23 16 z y (x * 2 ^ 8) (omega arith) q (omega arith) ∙ b;
-      width = bits-is w 31 24 0 z (x * 2 ^ 8 + y * 2 ^ 16) (omega arith) r (omega arith) ∙ c;
-      rest = bits-is w 63 32 0 0 w (omega arith) (omega arith) (omega arith);
+      number = bits-is w 7 0 (x + y * 2 ^ 8 + z * 2 ^ 16 + n * 2 ^ 24) 0 0 (omega arith) (omega arith) (omega arith) ∙ sym d;
+      what = bits-is w 15 8 (y + z * 2 ^ 8 + n * 2 ^ 16) x 0 (omega arith) p (omega arith) ∙ a;
+      place = bits-is w 23 16 (z + n * 2 ^ 8) y (x * 2 ^ 8) (omega arith) q (omega arith) ∙ b;
+      width = bits-is w 31 24 n z (x * 2 ^ 8 + y * 2 ^ 16) (omega arith) r (omega arith) ∙ c;
+      count = bits-is w 39 32 0 n (x * 2 ^ 8 + y * 2 ^ 16 + z * 2 ^ 24) (omega arith) s (omega arith) ∙ g;
+      rest = bits-is w 63 40 0 0 w (omega arith) (omega arith) (omega arith);
     }
 
 pub find-shows : FindShows
@@ -180,9 +227,11 @@ unfolding foundWord
 find-shows map bank location e =
     let o = find-stands map bank location .0 e .0 in
     let f = holder (recordsOf map) bank location in
+    let n = length (visited map bank location) in
     let small = fits map o bank location f (found-exactly map o bank location f .0 refl) in
-    parts (findWord map bank location) (what f) (place f) (width f) f (word-found map bank location e) refl refl refl
-    (small .0) (small .1) (small .2)
+    let most = visited-most map (ordered-size map o) bank location in
+    parts (findWord map bank location) (what f) (place f) (width f) n (acceptedFind map bank location)
+    (word-found map bank location e) refl refl refl refl refl (small .0) (small .1) (small .2) (omega arith)
 
 pub find-settled : FindSettled
 find-settled map bank location = settles (findOf map bank location)

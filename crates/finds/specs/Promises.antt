@@ -5,28 +5,33 @@ use mathlib.Core.Logic.{_↔_}
 use mathlib.Core.Bool.{true}
 use mathlib.Core.List.{List}
 use Prim.Native.Nat.{ℕ, _≤_, _<_}
+use lib.ListN.{length}
 use Rattle.laws.specs.Bits.{bits}
 use Rattle.laws.specs.Numbers.{Given}
 use Rattle.laws.specs.Settled.{Settles}
-use Rattle.records.specs.Map.{recordsOf}
 use Rattle.records.specs.Order.{ordered, orderNumber}
-use Rattle.records.specs.Lookup.{holder}
+use Rattle.records.specs.Halving.{visited}
 use Rattle.records.specs.Facts.{Says}
 use Rattle.records.specs.declared.holder.Found.{Found}
-use Rattle.finds.specs.Find.{refusedFind, findOf, what, place, width, findTests, findNumber, findWord}
+use Rattle.finds.specs.Find.{refusedFind, acceptedFind, findOf, what, place, width, findTests, findNumber, findWord}
 use Rattle.finds.specs.declared.found.Finding.{Finding}
 
--- a map that passes 7, 8 and 9: number 0, and an answer exactly if what it says is so
+-- a map that passes 7, 8 and 9: number 0, an answer exactly if what it says is so, and how many records are visited
 abbrev pub FindSays : Type 0
 FindSays =
     (map : List ℕ) → ordered map ≡ true → (bank location : ℕ) (f : Found)
-    → (findOf map bank location ≡ record { number = 0; found = f }) ↔ Says map bank location f
+    → (findOf map bank location ≡ record { number = 0; found = f; count = length (visited map bank location) })
+    ↔ Says map bank location f
 
 -- any other: its number, and no answer
 abbrev pub FindRefuses : Type 0
 FindRefuses =
     (map : List ℕ) (bank location n : ℕ) → 0 < n
     → (findOf map bank location ≡ refusedFind n) ↔ (orderNumber map ≡ n)
+
+-- whatever is handed in, at most 7 records are examined
+abbrev pub FindMost : Type 0
+FindMost = (map : List ℕ) (bank location : ℕ) → findOf map bank location .count ≤ 7
 
 -- As one number.
 
@@ -42,18 +47,19 @@ FindStands =
     (map : List ℕ) (bank location : ℕ)
     → (findNumber map bank location ≡ 0) ↔ ((ordered map ≡ true) × (bank ≤ 255) × (location ≤ 255))
 
--- number | what << 8 | location << 16 | width << 24: each part stands in its bits, and nothing above them
-pub record FindBack (w n : ℕ) (f : Found) : Type 0 where
-  pub number : bits w 7 0 ≡ n
-  pub what : bits w 15 8 ≡ what f
-  pub place : bits w 23 16 ≡ place f
-  pub width : bits w 31 24 ≡ width f
-  pub rest : bits w 63 32 ≡ 0
+-- number | what << 8 | location << 16 | width << 24 | count << 32: each part stands in its bits, and nothing above them
+pub record FindBack (w : ℕ) (x : Finding) : Type 0 where
+  pub number : bits w 7 0 ≡ x .number
+  pub what : bits w 15 8 ≡ what (x .found)
+  pub place : bits w 23 16 ≡ place (x .found)
+  pub width : bits w 31 24 ≡ width (x .found)
+  pub count : bits w 39 32 ≡ x .count
+  pub rest : bits w 63 40 ≡ 0
 
 abbrev pub FindShows : Type 0
 FindShows =
     (map : List ℕ) (bank location : ℕ) → findNumber map bank location ≡ 0
-    → FindBack (findWord map bank location) 0 (holder (recordsOf map) bank location)
+    → FindBack (findWord map bank location) (acceptedFind map bank location)
 
 -- a refusal is its number alone
 abbrev pub FindAlone : Type 0

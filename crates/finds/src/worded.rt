@@ -1,6 +1,6 @@
 // The find call as one number, for banks and locations of any size.
 ghost use mathlib.Core.Path.{_≡_};
-ghost use Prim.Native.Nat.{_+_, _*_, _^_};
+ghost use Prim.Native.Nat.{_+_, _*_, _^_, _<_};
 ghost use Rattle.records.specs.declared.holder.Found.the-variants.{Missing};
 ghost use Rattle.finds.specs.Find.{foundWord, elseOutOfRange};
 ghost use Rattle.finds.specs.Promises.{FindWordPromise};
@@ -35,6 +35,14 @@ fn found_word(found: Found) -> u64
     }
 }
 
+// Internal: count << 32 besides.
+fn with_count(word: u64, count: u8) -> u64
+    requires { ⌜ word < 2 ^ 32 ⌝ }
+    ensures { λ r. ⌜ r ≡ word + count * 2 ^ 32 ⌝ }
+{
+    word + count as u64 * 4294967296
+}
+
 // 7, 8, 9, then 6.
 fn else_out_of_range(map: &[u8]) -> u8
     ensures { λ r. ⌜ r ≡ elseOutOfRange (now (map .entry)) ⌝ }
@@ -46,7 +54,7 @@ fn else_out_of_range(map: &[u8]) -> u8
     6
 }
 
-// Number, or what stands there. Bank and location are wider than bytes, so that neither is cut to fit.
+// Number, or what stands there and the count. Bank and location are wider than bytes, so that neither is cut to fit.
 pub fn find_word(map: &[u8], bank: u32, location: u32) -> u64
     ensures { λ r. ⌜ FindWordPromise (now (map .entry)) bank location r ⌝ }
 {
@@ -61,5 +69,5 @@ pub fn find_word(map: &[u8], bank: u32, location: u32) -> u64
         return finding.number as u64;
     }
     let found = finding.found;
-    found_word(found)
+    with_count(found_word(found), finding.count)
 }

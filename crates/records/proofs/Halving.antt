@@ -18,7 +18,7 @@ use Rattle.records.specs.Map.{recordAt, recordsOf}
 use Rattle.records.specs.Order.{ordered}
 use Rattle.records.specs.Lookup.{holds, why, holder}
 use Rattle.records.specs.Facts.{Member, Before, Holds}
-use Rattle.records.specs.Halving.{Sought, atLocation, inBank, middle, visits, visitsOf, visited, halved, halvedBank}
+use Rattle.records.specs.Halving.{Wanted, atLocation, inBank, middle, visits, visitsOf, visited, halved, halvedBank}
 use Rattle.records.specs.Promises.{HalvingFinds, HalvingMaps}
 use Rattle.records.specs.declared.record.Record.{Record}
 use Rattle.records.specs.declared.holder.Found.{Found}
@@ -30,7 +30,7 @@ use Rattle.records.proofs.Locations.{holds-is, holder-at, holder-none, 
 use Rattle.records.proofs.Why.{neither, Among, Near, tells-one, tells-near, why-tells}
 
 -- a test comes out one way or the other, and two numbers stand in one of three ways
-true-or-false : (b : Bool) → (b ≡ true) ⊎ (b ≡ false)
+pub true-or-false : (b : Bool) → (b ≡ true) ⊎ (b ≡ false)
 true-or-false true = inl refl
 true-or-false false = inr refl
 
@@ -61,7 +61,7 @@ record Reached (map : List ℕ) (Q : Record → Type 0) (l : List ℕ) : Type 0 
   among : List·Memᴰ at (each (recordAt map) l)
   is : Q at
 
-module _ (map : List ℕ) (s : Sought) where
+module _ (map : List ℕ) (s : Wanted) where
   -- what holds of no position, and with each position below n of one more, holds of those visited
   visits-below : (P : List ℕ → Type 0) (n : ℕ) → P [] → ((m : ℕ) (l : List ℕ) → m < n → P l → P (m ∷ l))
       → (fuel low high : ℕ) → high ≤ n → P (visits map s fuel low high)
@@ -126,7 +126,7 @@ module _ (map : List ℕ) (s : Sought) where
       (guide .2 e u))))
       (λ ge. absurd (omega arith))
 
-  -- against a record where what is sought is not: left of it if a record before has it, else right
+  -- against a record where what is wanted is not: left of it if a record before has it, else right
   abbrev Sides : Type 0
   Sides =
       (p r : Record) → s .here p ≡ true → s .here r ≡ false
@@ -162,7 +162,7 @@ module _ (map : List ℕ) (s : Sought) where
       (omega arith)
 
 -- a location
-location-left : (bank location : ℕ) (p r : Record) → Holds p bank location → Before p r
+pub location-left : (bank location : ℕ) (p r : Record) → Holds p bank location → Before p r
     → atLocation bank location .left r ≡ true
 location-left bank location p r h (inl b) = let lower : bank < r .bank = omega arith in search (or-left, lt-ltb)
 location-left bank location p r h (inr b) =
@@ -290,18 +290,18 @@ pub halving-finds : HalvingFinds
 unfolding halved visited
 halving-finds map o bank location = go (holder seen bank location) refl
   where
-    sought : Sought
-    sought = atLocation bank location
+    wanted : Wanted
+    wanted = atLocation bank location
 
     seen : List Record
-    seen = each (recordAt map) (visitsOf map sought)
+    seen = each (recordAt map) (visitsOf map wanted)
 
     none-holds : (w : Why) → holder seen bank location ≡ Missing w → (r : Record) → Member r map
         → holds r bank location ≡ false
     none-holds w e r m =
         ⊎-elim
         (λ t.
-        let x = found map sought o (location-sides map bank location) r m t in
+        let x = found map wanted o (location-sides map bank location) r m t in
         clash (holds (x .at) bank location) (x .is) (holder-none bank location seen w e (x .at) (x .among)))
         (λ f. f)
         (true-or-false (holds r bank location))
@@ -309,11 +309,11 @@ halving-finds map o bank location = go (holder seen bank location) refl
     go : (f : Found) → holder seen bank location ≡ f → f ≡ holder (recordsOf map) bank location
     go (At r) e =
         let x = holder-at bank location seen r e in
-        sym (rising-hit bank location (recordsOf map) (rises map o) r (visits-members map sought r (x .0)) (x .1))
+        sym (rising-hit bank location (recordsOf map) (rises map o) r (visits-members map wanted r (x .0)) (x .1))
     go (Missing w) e =
         let none = none-holds w e in
         let reason = tells-near bank location (Among bank location seen) (Among bank location (recordsOf map))
-        (visits-members map sought) (visits-near map o bank location none) (why seen bank location)
+        (visits-members map wanted) (visits-near map o bank location none) (why seen bank location)
         (why-tells bank location seen) in
         sym e ∙ none-holder bank location seen (holder-none bank location seen w e)
         ∙ ap Missing (tells-one bank location (Among bank location (recordsOf map)) _ _ reason

@@ -6,6 +6,7 @@ pub mod Missing
 pub mod Halving
 pub mod Neighbours
 pub mod Turns
+pub mod Visits
 pub mod Ordered
 pub mod Cases
 pub mod HalvingCases

@@ -15,13 +15,13 @@ use Rattle.records.specs.Map.{recordAt}
 use Rattle.records.specs.Order.{ordered}
 use Rattle.records.specs.Lookup.{nearer}
 use Rattle.records.specs.Facts.{Before}
-use Rattle.records.specs.Halving.{atLocation, beside, halved}
+use Rattle.records.specs.Halving.{atLocation, beside, sought}
 use Rattle.records.specs.declared.record.Record.{Record}
 use Rattle.records.specs.declared.holder.Why.{Why}
 use Rattle.records.specs.declared.holder.Why.the-variants.{Hole, Past}
 use Rattle.records.proofs.Members.{members-rise}
 use Rattle.records.proofs.Why.{nearer-lower, nearer-higher, orPast, told}
-use Rattle.records.proofs.Turns.{seen, holder-in, holder-starts}
+use Rattle.records.proofs.Turns.{seen, sought-in, sought-starts}
 use Rattle.records.proofs.Halving.{location-is-left, location-not-left}
 
 -- the bank below is no bank, or not above that of this record; the bank above, with its first location, not below
@@ -65,10 +65,10 @@ module _ (map : List ℕ) where
 module _ (bank location : ℕ) (low-bank : bank ≤ 255) where
   -- no neighbour yet
   pub starts-between : (map : List ℕ) (n : ℕ) → n ≡ length map / 8
-      → halved map bank location
-      ≡ holder-in bank location (beside bank 256 256 0) (seen map (atLocation bank location) 0 n)
+      → sought map bank location
+      ≡ sought-in bank location (beside bank 256 256 0) 0 (seen map (atLocation bank location) 0 n)
   unfolding beside
-  starts-between map n e = holder-starts map bank location n e ∙ rw (ne-eqb 256 bank (λ e. absurd (omega arith)))
+  starts-between map n e = sought-starts map bank location n e ∙ rw (ne-eqb 256 bank (λ e. absurd (omega arith)))
 
   module _ (below above next : ℕ) (r : Record) where
     -- a record right of the location, and not behind the neighbour there: it is the neighbour

@@ -3,7 +3,9 @@
 use mathlib.Core.Path.{_≡_, refl}
 use mathlib.Core.Bool.{true}
 use mathlib.Core.List.{List}
-use Prim.Native.Nat.{ℕ}
+use Prim.Native.Nat.{ℕ, _%_, _≤_}
+use borrow.Author.Tests.{leb-true}
+use lib.Dec.{leb, eqb}
 use lib.ListN.{length}
 use Rattle.laws.specs.Lists.{every}
 use Rattle.laws.proofs.Tests.{both}
@@ -27,6 +29,14 @@ zero-ordered map e =
     let fields = both (every fieldsHold rs) _ (size .1) in
     let rise = both (rising rs) true (fields .1) in
     ordered-of map (size .0) (fields .0) (rise .0)
+
+pub ordered-size : (map : List ℕ) → ordered map ≡ true → sizeHolds (length map) ≡ true
+unfolding ordered
+ordered-size map o = both (sizeHolds (length map)) _ o .0
+
+pub size-most : (n : ℕ) → sizeHolds n ≡ true → n ≤ 512
+unfolding sizeHolds
+size-most n h = leb-true n 512 (both (eqb (n % 8) 0) (leb n 512) h .1)
 
 pub ordered-zero : (map : List ℕ) → ordered map ≡ true → orderNumber map ≡ 0
 unfolding orderNumber ordered

@@ -6,32 +6,34 @@ use mathlib.Core.Path.{_≡_, refl, ap, sym, _∙_}
 use mathlib.Core.Bool.{Bool, true, false}
 use mathlib.Core.List.{List, [], _∷_, map as each}
 use native.Mathlib.Omega.{arith}
+use native.Mathlib.Nat.{zero-add}
 use borrow.Author.Tests.{lt-ltb, le-ltb}
 use lib.Dec.{eqb}
-use lib.ListN.{length}
+use lib.ListN.{length, length-map}
 use Rattle.laws.proofs.Tests.{if-lt}
 use Rattle.records.specs.Map.{recordAt, mapped}
 use Rattle.records.specs.Lookup.{holds, heldOr, holder}
-use Rattle.records.specs.Halving.{Sought, atLocation, inBank, middle, after, visits, visitsOf, visited, halved, halvedBank}
+use Rattle.records.specs.Halving.{Wanted, atLocation, inBank, middle, after, visits, visitsOf, visited, halved, halvedBank, sought}
 use Rattle.records.specs.Promises.{MoreFuel}
 use Rattle.records.specs.declared.record.Record.{Record}
 use Rattle.records.specs.declared.holder.Found.{Found}
 use Rattle.records.specs.declared.holder.Found.the-variants.{At, Missing}
+use Rattle.records.specs.declared.holder.Sought.{Sought}
 use Rattle.records.specs.declared.holder.Why.{Why}
 use Rattle.records.specs.declared.holder.Why.the-variants.{Absent}
 use Rattle.records.proofs.Why.{told, carried, carried-why}
 
-module _ (map : List ℕ) (s : Sought) where
+module _ (map : List ℕ) (s : Wanted) where
   -- the middle of low and high, and what comes after it
-  abbrev from-middle : ℕ → ℕ → List ℕ → List ℕ → List ℕ
+  abbrev pub from-middle : ℕ → ℕ → List ℕ → List ℕ → List ℕ
   from-middle low high left right = middle low high ∷ after s (recordAt map (middle low high)) left right
 
-  ends : (fuel low high : ℕ) → high ≤ low → visits map s fuel low high ≡ []
+  pub ends : (fuel low high : ℕ) → high ≤ low → visits map s fuel low high ≡ []
   unfolding visits
   ends zero low high h = refl
   ends (suc fuel) low high h = rw (le-ltb low high h)
 
-  goes : (fuel low high : ℕ) → low < high
+  pub goes : (fuel low high : ℕ) → low < high
       → visits map s (suc fuel) low high
       ≡ from-middle low high (visits map s fuel low (middle low high)) (visits map s fuel (middle low high + 1) high)
   unfolding visits
@@ -96,11 +98,11 @@ module _ (map : List ℕ) (s : Sought) where
     seen-right t u = turned ∙ rw (t, u)
 
 pub more-fuel : MoreFuel
-more-fuel map sought fuel h = enough map sought fuel (length map / 8) 0 (length map / 8) (omega arith) (omega arith)
+more-fuel map wanted fuel h = enough map wanted fuel (length map / 8) 0 (length map / 8) (omega arith) (omega arith)
 
--- An answer over the records visited; a record that is not what is sought leaves it to an answer over the rest: a turn of the
+-- An answer over the records visited; a record that is not what is wanted leaves it to an answer over the rest: a turn of the
 -- search.
-module _ (map : List ℕ) (s : Sought) {A : Type 0} (f g : List Record → A) {x : A} {low high m : ℕ} {r : Record}
+module _ (map : List ℕ) (s : Wanted) {A : Type 0} (f g : List Record → A) {x : A} {low high m : ℕ} {r : Record}
     (skips : (rs : List Record) → s .here r ≡ false → f (r ∷ rs) ≡ g rs) where
   pub goes-left : x ≡ f (seen map s low high) → low < high → m ≡ middle low high → r ≡ recordAt map m
       → s .here r ≡ false → s .left r ≡ true
@@ -112,35 +114,44 @@ module _ (map : List ℕ) (s : Sought) {A : Type 0} (f g : List Record → A) {x
       → x ≡ g (seen map s (m + 1) high)
   goes-right v lt e q t u = v ∙ ap f (seen-right map s lt e q t u) ∙ skips _ t
 
-pub stops : (map : List ℕ) (s : Sought) {A : Type 0} (f : List Record → A) {x : A} {low high m : ℕ} {r : Record}
+pub stops : (map : List ℕ) (s : Wanted) {A : Type 0} (f : List Record → A) {x : A} {low high m : ℕ} {r : Record}
     → x ≡ f (seen map s low high) → low < high → m ≡ middle low high → r ≡ recordAt map m → s .here r ≡ true
     → f (r ∷ []) ≡ x
 stops map s f v lt e q t = sym (v ∙ ap f (seen-here map s lt e q t))
 
--- the record that holds a location, and the reason that is carried
-abbrev pub holder-in : ℕ → ℕ → Why → List Record → Found
-holder-in bank location w rs = heldOr (Missing (carried bank location w rs)) rs bank location
+-- the record that holds a location, with the reason that is carried; and how many are counted, with those counted before
+abbrev pub sought-in : ℕ → ℕ → Why → ℕ → List Record → Sought
+sought-in bank location w n rs =
+    record { found = heldOr (Missing (carried bank location w rs)) rs bank location; count = n + length rs }
 
-pub holder-skips : (bank location : ℕ) (w v : Why) (r : Record) → v ≡ told bank location r w → (rs : List Record)
+pub sought-skips : (bank location : ℕ) (w v : Why) (n : ℕ) (r : Record) → v ≡ told bank location r w → (rs : List Record)
     → holds r bank location ≡ false
-    → holder-in bank location w (r ∷ rs) ≡ holder-in bank location v rs
-holder-skips bank location w v r e rs t = rw (t, e)
+    → sought-in bank location w n (r ∷ rs) ≡ sought-in bank location v (n + 1) rs
+sought-skips bank location w v n r e rs t =
+    let one-more : n + suc (length rs) ≡ n + 1 + length rs = omega arith in
+    rw (t, e, one-more)
 
-pub holder-has : (bank location : ℕ) (w : Why) (r : Record) → holds r bank location ≡ true
-    → At r ≡ holder-in bank location w (r ∷ [])
-holder-has bank location w r t = rw t
+pub sought-has : (bank location : ℕ) (w : Why) (n : ℕ) (r : Record) → holds r bank location ≡ true
+    → record { found = At r; count = n + 1 } ≡ sought-in bank location w n (r ∷ [])
+sought-has bank location w n r t = rw t
 
-pub holder-starts : (map : List ℕ) (bank location n : ℕ) → n ≡ length map / 8
-    → halved map bank location ≡ holder-in bank location Absent (seen map (atLocation bank location) 0 n)
-unfolding halved visited holder
-holder-starts map bank location n e =
-    let rs = each (recordAt map) (visitsOf map (atLocation bank location)) in
-    ap (λ (w : Why). heldOr (Missing w) rs bank location) (sym (carried-why bank location rs))
-    ∙ ap (holder-in bank location Absent) (seen-start map (atLocation bank location) n e)
+pub sought-starts : (map : List ℕ) (bank location n : ℕ) → n ≡ length map / 8
+    → sought map bank location ≡ sought-in bank location Absent 0 (seen map (atLocation bank location) 0 n)
+unfolding sought halved visited holder
+sought-starts map bank location n e =
+    let l = visitsOf map (atLocation bank location) in
+    let rs = each (recordAt map) l in
+    ap (λ (w : Why). record { found = heldOr (Missing w) rs bank location; count = length l })
+    (sym (carried-why bank location rs))
+    ∙ ap (λ (k : ℕ). record { found = heldOr (Missing (carried bank location Absent rs)) rs bank location; count = k })
+    (sym (length-map l (recordAt map)) ∙ sym (zero-add (length rs)))
+    ∙ ap (sought-in bank location Absent 0) (seen-start map (atLocation bank location) n e)
 
-pub holder-ends : (map : List ℕ) (bank location low high : ℕ) (w : Why) → high ≤ low
-    → holder-in bank location w (seen map (atLocation bank location) low high) ≡ Missing w
-holder-ends map bank location low high w h = rw (seen-end map (atLocation bank location) low high h)
+pub sought-ends : (map : List ℕ) (bank location low high : ℕ) (v w : Why) (n : ℕ) → v ≡ w → high ≤ low
+    → record { found = Missing v; count = n } ≡ sought-in bank location w n (seen map (atLocation bank location) low high)
+sought-ends map bank location low high v w n e h =
+    rw (e, seen-end map (atLocation bank location) low high h)
+    (ap (λ (k : ℕ). record { found = Missing w; count = k }) (omega arith))
 
 -- a bank's records
 abbrev pub mapped-in : ℕ → List Record → Bool

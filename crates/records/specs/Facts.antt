@@ -3,9 +3,9 @@
 use mathlib.Core.Path.{_≡_}
 use mathlib.Core.Logic.{_⊎_}
 use mathlib.Core.Bool.{true}
-use mathlib.Core.List.{List, List·Memᴰ}
+use mathlib.Core.List.{List, [], _∷_, List·Memᴰ}
 use Prim.Native.Nat.{ℕ, _≤_, _<_}
-use Rattle.records.specs.Map.{recordsOf, writable, locationsEnd}
+use Rattle.records.specs.Map.{recordAt, recordsOf, writable, locationsEnd}
 use Rattle.records.specs.declared.record.Record.{Record}
 use Rattle.records.specs.declared.holder.Found.{Found}
 use Rattle.records.specs.declared.holder.Found.the-variants.{At, Missing}
@@ -61,3 +61,12 @@ Says map bank location (At r) = Member r map × Holds r bank location
 Says map bank location (Missing Absent) = IsAbsent map bank
 Says map bank location (Missing (Hole n)) = IsHole map bank location n
 Says map bank location (Missing Past) = IsPast map bank location
+
+-- no position twice
+abbrev pub Distinct : List ℕ → Type 0
+Distinct [] = Unit {0}
+Distinct (i ∷ l) = (List·Memᴰ i l → ⊥) × Distinct l
+
+-- two maps agree at these positions: the records there are the same
+abbrev pub AgreeAt : List ℕ → List ℕ → List ℕ → Type 0
+AgreeAt map other l = (i : ℕ) → List·Memᴰ i l → recordAt map i ≡ recordAt other i

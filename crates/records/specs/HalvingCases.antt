@@ -1,9 +1,9 @@
--- Worked cases: the positions that halving visits. One table and one statement.
+-- Worked cases: the positions that halving visits, and how many. Two tables, each with its statement.
 -- Assumes nothing.
 use mathlib.Core.Path.{_≡_}
 use mathlib.Core.List.{List, [], _∷_, _++_, map}
 use Prim.Native.Nat.{ℕ, zero, suc, _+_, _*_}
-use Rattle.records.specs.Halving.{Sought, atLocation, inBank, visitsOf}
+use Rattle.records.specs.Halving.{Wanted, atLocation, inBank, visitsOf, sought}
 use Rattle.records.specs.Cases.{mapRow, headRow, lockRow}
 
 -- n records of bank 1, from number i on: number i holds the locations 3 i + 1 and 3 i + 2; no record holds 3 i
@@ -20,11 +20,11 @@ threeBanks = headRow 1 ++ lockRow 1 ++ headRow 3 ++ lockRow 3 ++ headRow 5 ++ lo
 
 pub record VisitCase : Type 0 where
   pub records : List ℕ
-  pub sought : Sought
+  pub wanted : Wanted
   pub positions : List ℕ
 
-abbrev visiting : List ℕ → Sought → List ℕ → VisitCase
-visiting records sought positions = record { records = records; sought = sought; positions = positions }
+abbrev visiting : List ℕ → Wanted → List ℕ → VisitCase
+visiting records wanted positions = record { records = records; wanted = wanted; positions = positions }
 
 abbrev pub visitCases : List VisitCase
 visitCases =
@@ -61,4 +61,32 @@ visitCases =
 
 -- each case visits its positions
 unfoldable pub VisitCases : Type 0
-VisitCases = map (λ c. visitsOf (c .records) (c .sought)) visitCases ≡ map (λ c. c .positions) visitCases
+VisitCases = map (λ c. visitsOf (c .records) (c .wanted)) visitCases ≡ map (λ c. c .positions) visitCases
+
+pub record CountCase : Type 0 where
+  pub records : List ℕ
+  pub location : ℕ
+  pub count : ℕ
+
+abbrev counting : List ℕ → ℕ → ℕ → CountCase
+counting records location count = record { records = records; location = location; count = count }
+
+-- in bank 1: none of none, one of one, of three the middle one and another; at most 6 of 32 and of 63, and 7 of 64, for their
+-- first; of 64 for the middle, the last, and a location that no record holds
+abbrev pub countCases : List CountCase
+countCases =
+    counting [] 1 0
+    ∷ counting (rows 1) 1 1
+    ∷ counting (rows 3) 5 1
+    ∷ counting (rows 3) 6 2
+    ∷ counting (rows 32) 1 6
+    ∷ counting (rows 63) 1 6
+    ∷ counting (rows 64) 1 7
+    ∷ counting (rows 64) 97 1
+    ∷ counting (rows 64) 191 6
+    ∷ counting (rows 64) 63 6
+    ∷ []
+
+-- each case counts as many
+unfoldable pub CountCases : Type 0
+CountCases = map (λ c. sought (c .records) 1 (c .location) .count) countCases ≡ map (λ c. c .count) countCases

@@ -3,16 +3,16 @@
 use mathlib.Core.Path.{_≡_}
 use mathlib.Core.Logic.{_↔_}
 use mathlib.Core.Bool.{true, false}
-use mathlib.Core.List.{List}
-use Prim.Native.Nat.{ℕ, _/_, _≤_, _<_}
+use mathlib.Core.List.{List, [], List·Memᴰ}
+use Prim.Native.Nat.{ℕ, _/_, _^_, _≤_, _<_}
 use lib.ListN.{length}
 use Rattle.laws.specs.Numbers.{Given}
 use Rattle.laws.specs.Settled.{Settles}
 use Rattle.records.specs.Map.{recordAt, recordsOf, mapped}
-use Rattle.records.specs.Order.{ordered, orderTests, orderNumber}
+use Rattle.records.specs.Order.{sizeHolds, ordered, orderTests, orderNumber}
 use Rattle.records.specs.Lookup.{holds, holder, beginner}
-use Rattle.records.specs.Halving.{Sought, visits, visitsOf, halved, halvedBank}
-use Rattle.records.specs.Facts.{Member, FieldsHold, Before, Holds, Says}
+use Rattle.records.specs.Halving.{Wanted, visits, visitsOf, visited, halved, halvedBank}
+use Rattle.records.specs.Facts.{Member, FieldsHold, Before, Holds, Says, Distinct, AgreeAt}
 use Rattle.records.specs.declared.record.Record.{Record}
 use Rattle.records.specs.declared.holder.Beginning.the-variants.{Begins}
 use Rattle.records.specs.declared.holder.Found.{Found}
@@ -97,8 +97,53 @@ HalvingMaps = (map : List ℕ) → ordered map ≡ true → (bank : ℕ) → hal
 -- more fuel than records changes nothing
 abbrev pub MoreFuel : Type 0
 MoreFuel =
-    (map : List ℕ) (sought : Sought) (fuel : ℕ) → length map / 8 ≤ fuel
-    → visits map sought fuel 0 (length map / 8) ≡ visitsOf map sought
+    (map : List ℕ) (wanted : Wanted) (fuel : ℕ) → length map / 8 ≤ fuel
+    → visits map wanted fuel 0 (length map / 8) ≡ visitsOf map wanted
+
+-- How many records a look-up examines, the length of the list of positions that it visits. Paper 02, Item 5.
+
+-- of fewer than 2 ^ k records at most k are visited
+abbrev pub VisitedBound : Type 0
+VisitedBound =
+    (map : List ℕ) (bank location k : ℕ) → length map / 8 < 2 ^ k → length (visited map bank location) ≤ k
+
+-- and no lower bound holds: for every bank and location at most k, exactly if there are fewer than 2 ^ k records
+abbrev pub VisitedExactly : Type 0
+VisitedExactly =
+    (map : List ℕ) → ordered map ≡ true → (k : ℕ)
+    → ((bank location : ℕ) → length (visited map bank location) ≤ k) ↔ (length map / 8 < 2 ^ k)
+
+-- "at most 7 with 64 records": 7 allows no more
+abbrev pub VisitedMost : Type 0
+VisitedMost =
+    (map : List ℕ) → sizeHolds (length map) ≡ true → (bank location : ℕ) → length (visited map bank location) ≤ 7
+
+-- "and 0 with none"
+abbrev pub VisitedNone : Type 0
+VisitedNone = (map : List ℕ) → length map / 8 ≡ 0 → (bank location : ℕ) → visited map bank location ≡ []
+
+-- each position is that of a record
+abbrev pub VisitedBelow : Type 0
+VisitedBelow =
+    (map : List ℕ) (bank location i : ℕ) → List·Memᴰ i (visited map bank location) → i < length map / 8
+
+-- and none is visited twice
+abbrev pub VisitedDistinct : Type 0
+VisitedDistinct = (map : List ℕ) (bank location : ℕ) → Distinct (visited map bank location)
+
+-- the list tells the truth about what is examined: a map of that length that agrees at these positions has the same list
+abbrev pub VisitedTells : Type 0
+VisitedTells =
+    (map other : List ℕ) → length map ≡ length other → (bank location : ℕ)
+    → AgreeAt map other (visited map bank location)
+    → visited map bank location ≡ visited other bank location
+
+-- and, if both pass 7, 8 and 9, the same answer with the same reason
+abbrev pub AnswerTells : Type 0
+AnswerTells =
+    (map other : List ℕ) → ordered map ≡ true → ordered other ≡ true → length map ≡ length other
+    → (bank location : ℕ) → AgreeAt map other (visited map bank location)
+    → holder (recordsOf map) bank location ≡ holder (recordsOf other) bank location
 
 -- What the public call promises of its result r; answers that meet the same promise are equal.
 

@@ -5,7 +5,7 @@ ghost use Prim.Native.Nat.{_≤_};
 ghost use Rattle.records.specs.Map.{recordsOf, mapped};
 ghost use Rattle.records.specs.Order.{ordered};
 ghost use Rattle.records.specs.Lookup.{holds, holder, beginner};
-ghost use Rattle.records.specs.Halving.{atLocation, middle, beside, halved, halvedBank};
+ghost use Rattle.records.specs.Halving.{atLocation, middle, beside, sought, halvedBank};
 use crate::record::Record;
 use crate::record::locations_end;
 use crate::record::record_at;
@@ -22,6 +22,12 @@ pub enum Why {
 pub enum Found {
     At(Record),
     Missing(Why),
+}
+
+// What halving finds, and how many records it examines for that.
+pub struct Sought {
+    pub found: Found,
+    pub count: usize,
 }
 
 pub enum Beginning {
@@ -68,20 +74,25 @@ fn reason(bank: u8, below: usize, above: usize, next: u8) -> Why
 
 // Internal: halving. The map has passed 7, 8 and 9. The reason is carried on the way: the last record that lay right of the
 // location and the last that lay left of it are the neighbours of the gap.
-fn halve(map: &[u8], bank: u8, location: u8) -> Found
+pub fn halve(map: &[u8], bank: u8, location: u8) -> Sought
     requires { ⌜ ordered (now map) ≡ true ⌝ }
-    ensures { λ r. ⌜ r ≡ halved (now (map .entry)) bank location ⌝ }
+    ensures { λ r. ⌜ r ≡ sought (now (map .entry)) bank location ⌝ }
 {
     let mut low = 0;
     let mut high = records(map);
+    let mut count = 0;
     let mut below = 256;
     let mut above = 256;
     let mut next = 0;
     while low < high {
         let m = middle_of(low, high);
         let r = record_at(map, m);
+        count += 1;
         if holds_location(r, bank, location) {
-            return Found::At(r);
+            return Sought {
+                found: Found::At(r),
+                count: count,
+            };
         }
         if lies_left(r, bank, location) {
             high = m;
@@ -92,7 +103,10 @@ fn halve(map: &[u8], bank: u8, location: u8) -> Found
             below = r.bank as usize;
         }
     }
-    Found::Missing(reason(bank, below, above, next))
+    Sought {
+        found: Found::Missing(reason(bank, below, above, next)),
+        count: count,
+    }
 }
 
 // Halving by the bank alone, of any map.
@@ -121,7 +135,8 @@ pub fn lookup(map: &[u8], bank: u8, location: u8) -> Found
     requires { ⌜ ordered (now map) ≡ true ⌝ }
     ensures { λ r. ⌜ r ≡ holder (recordsOf (now (map .entry))) bank location ⌝ }
 {
-    halve(map, bank, location)
+    let sought = halve(map, bank, location);
+    sought.found
 }
 
 // Internal: the value that begins at the bank and location. The map has passed 7, 8 and 9.

@@ -5,7 +5,9 @@ mod holder; // which record holds a location or why none does, which value begin
 
 pub use holder::Beginning;
 pub use holder::Found;
+pub use holder::Sought;
 pub use holder::Why;
+pub use holder::halve;
 pub use holder::is_mapped;
 pub use holder::lookup;
 pub use holder::value_at;

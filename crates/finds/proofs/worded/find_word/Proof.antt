@@ -1,7 +1,7 @@
 -- `finds::worded::find_word` meets its contract.
 -- Assumes nothing.
 use borrow.Author.Needs.{needs}
-use Rattle.finds.proofs.Finds.{word-bank-over, word-location-over, word-number, word-is}
+use Rattle.finds.proofs.Finds.{word-bank-over, word-location-over, word-number, word-is, answer-fits}
 use Rattle.finds.proofs.worded.find_word.Statement.{statement}
 use Rattle.finds.proofs.worded.find_word.Tie as tie
 
@@ -18,11 +18,16 @@ returns-3 c =
     word-number _ _ _ (got .find .result) (got .find .ensures) (c .before .if3 .taken) (got .before .before .if1 .left)
     (got .before .if2 .left)
 
+with-count : tie.Need-with-count-requires
+with-count c κs =
+    let got = c .before .before .before in
+    answer-fits _ _ _ (got .find .result) _ (got .find .ensures) (c .before .if3 .left) (c .found-word .ensures)
+
 returns-4 : tie.Need-returns-4
 returns-4 c =
-    let got = c .before .before .before in
-    word-is _ _ _ (got .find .result) _ (got .find .ensures) (c .before .if3 .left) (got .before .before .if1 .left)
-    (got .before .if2 .left) (c .found-word .ensures)
+    let got = c .before .before .before .before in
+    word-is _ _ _ (got .find .result) _ _ (got .find .ensures) (c .before .before .if3 .left) (got .before .before .if1 .left)
+    (got .before .if2 .left) (c .before .found-word .ensures) (c .with-count .ensures)
 
 pub find-word-spec : {M : Type 1} → statement M
 find-word-spec =
@@ -39,4 +44,5 @@ find-word-spec =
     (λ c. search needs)
     returns-3
     (λ c κs. search needs)
+    with-count
     returns-4)

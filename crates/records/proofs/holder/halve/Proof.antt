@@ -1,39 +1,39 @@
 -- `records::holder::halve` meets its contract.
 -- Assumes nothing.
-use Prim.Native.Nat.{_-_, _/_, _≤_}
-use mathlib.Core.Path.{_≡_, refl, ap, sym, _∙_}
+use Prim.Native.Nat.{_+_, _-_, _/_, _≤_}
+use mathlib.Core.Path.{_≡_, refl, sym, _∙_}
 use mathlib.Core.Logic.{inl}
 use native.Mathlib.Omega.{arith}
 use lib.ListN.{length}
 use borrow.Author.Needs.{needs}
-use Rattle.records.specs.Halving.{atLocation, beside, halved}
-use Rattle.records.specs.declared.holder.Found.the-variants.{Missing}
+use Rattle.records.specs.Halving.{atLocation, beside, sought}
 use Rattle.records.proofs.Neighbours.{Below, Above, below-turn, above-turn, below-of, above-of, starts-between, told-left, told-right}
-use Rattle.records.proofs.Turns.{seen, stops, goes-left, goes-right, holder-in, holder-skips, holder-has, holder-starts, holder-ends}
+use Rattle.records.proofs.Turns.{seen, stops, goes-left, goes-right, sought-in, sought-skips, sought-has, sought-ends}
 use Rattle.records.proofs.holder.halve.Statement.{statement}
 use Rattle.records.proofs.holder.halve.Tie as tie
 
 abbrev Inv-loop : tie.InvT-loop
-Inv-loop map bank location low₀ high₀ below₀ above₀ next₀ low high below above next =
+Inv-loop map bank location low₀ high₀ count₀ below₀ above₀ next₀ low high count below above next =
     (high ≤ length map / 8)
+    × (count + (high - low) ≤ length map / 8)
     × Below map low below
     × Above map high above next
-    × (halved map bank location
-    ≡ holder-in bank location (beside bank below above next) (seen map (atLocation bank location) low high))
+    × (sought map bank location
+    ≡ sought-in bank location (beside bank below above next) count (seen map (atLocation bank location) low high))
 
 abbrev μ-loop : tie.MeasureT-loop
-μ-loop map bank location low₀ high₀ below₀ above₀ next₀ low high below above next = high - low
+μ-loop map bank location low₀ high₀ count₀ below₀ above₀ next₀ low high count below above next = high - low
 
 starts : tie.Need-loop-holds Inv-loop μ-loop
 starts c =
-    (omega arith, λ i l k. inl refl, λ i l. inl refl, starts-between _ _ (search needs) _ _ (c .records .ensures))
+    (omega arith, omega arith, λ i l k. inl refl, λ i l. inl refl, starts-between _ _ (search needs) _ _ (c .records .ensures))
 
 returns : tie.Need-returns Inv-loop μ-loop
 returns c =
     let middled = c .before .before .before in
     let held = sym (c .before .holds-location .ensures) ∙ c .if1 .taken in
-    holder-has _ _ _ _ held
-    ∙ stops _ (atLocation _ _) (holder-in _ _ _) (middled .before .before .loop .inv .3) (middled .before .loop-test .taken)
+    sought-has _ _ _ _ _ held
+    ∙ stops _ (atLocation _ _) (sought-in _ _ _ _) (middled .before .before .loop .inv .4) (middled .before .loop-test .taken)
     (middled .middle-of .ensures) (c .before .before .record-at .ensures) held
 
 loop-again : tie.Need-loop-again Inv-loop μ-loop
@@ -45,12 +45,13 @@ loop-again c =
     let inv = loop .loop .inv in
     let left = sym (c .before .before .lies-left .ensures) ∙ c .before .if2 .taken in (
       omega arith,
-      inv .1,
+      omega arith,
+      inv .2,
       above-turn _ (start .pre) _ (omega arith) _ (held .before .record-at .ensures),
-      goes-left _ (atLocation _ _) (holder-in _ _ _) (holder-in _ _ _)
-          (holder-skips _ _ _ _ _ (sym (told-left (start .args .bank) _ (search needs) _ _ _ _ left
-          (above-of _ (inv .2) (omega arith) (held .before .record-at .ensures)))))
-          (inv .3) (middled .before .loop-test .taken) (middled .middle-of .ensures) (held .before .record-at .ensures)
+      goes-left _ (atLocation _ _) (sought-in _ _ _ _) (sought-in _ _ _ _)
+          (sought-skips _ _ _ _ _ _ (sym (told-left (start .args .bank) _ (search needs) _ _ _ _ left
+          (above-of _ (inv .3) (omega arith) (held .before .record-at .ensures)))))
+          (inv .4) (middled .before .loop-test .taken) (middled .middle-of .ensures) (held .before .record-at .ensures)
           (sym (held .holds-location .ensures) ∙ c .before .before .before .if1 .left) left,
     )
 
@@ -63,12 +64,13 @@ loop-again-2 c =
     let inv = loop .loop .inv in
     let right = sym (c .before .before .lies-left .ensures) ∙ c .before .if2 .left in (
       inv .0,
+      omega arith,
       below-turn _ (start .pre) _ _ (held .before .record-at .ensures),
-      inv .2,
-      goes-right _ (atLocation _ _) (holder-in _ _ _) (holder-in _ _ _)
-          (holder-skips _ _ _ _ _ (sym (told-right (start .args .bank) _ (search needs) _ _ _ _ right
-          (below-of _ (inv .1) (omega arith) (omega arith) (held .before .record-at .ensures)))))
-          (inv .3) (middled .before .loop-test .taken) (middled .middle-of .ensures) (held .before .record-at .ensures)
+      inv .3,
+      goes-right _ (atLocation _ _) (sought-in _ _ _ _) (sought-in _ _ _ _)
+          (sought-skips _ _ _ _ _ _ (sym (told-right (start .args .bank) _ (search needs) _ _ _ _ right
+          (below-of _ (inv .2) (omega arith) (omega arith) (held .before .record-at .ensures)))))
+          (inv .4) (middled .before .loop-test .taken) (middled .middle-of .ensures) (held .before .record-at .ensures)
           (sym (held .holds-location .ensures) ∙ c .before .before .before .if1 .left) right,
     )
 
@@ -82,6 +84,7 @@ halve-spec =
     starts
     (λ c κs. omega arith)
     (λ c κs. omega arith)
+    (λ c. omega arith)
     (λ c κs. tt)
     returns
     (λ c κs. tt)
@@ -94,5 +97,5 @@ halve-spec =
     loop-again-2
     (λ c κs. tt)
     (λ c.
-    ap Missing (c .reason .ensures)
-    ∙ sym (c .before .before .loop .inv .3 ∙ holder-ends _ _ _ _ _ _ (c .before .loop-test .left))))
+    sought-ends _ _ _ _ _ _ _ _ (c .reason .ensures) (c .before .loop-test .left)
+    ∙ sym (c .before .before .loop .inv .4)))
