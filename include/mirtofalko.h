@@ -1,10 +1,10 @@
 /* Mirtofalko: settings in lighting units (IEC 62386-103), for C99 and later and for C++11 and later.
  *
  *   State of a unit   96 bytes
- *   Stack             at most 2,048 bytes for any call. Measured on x86-64: mf_check 160, mf_start 368, mf_frame 928,
- *                     mf_power_on 880, mf_run 1552, mf_look 192, mf_find 80, mf_read 288, mf_write 40, mf_compose_event 56,
+ *   Stack             at most 2,048 bytes for any call. Measured on x86-64: mf_check 128, mf_start 336, mf_frame 912,
+ *                     mf_power_on 880, mf_run 1536, mf_look 160, mf_find 80, mf_read 288, mf_write 40, mf_compose_event 56,
  *                     mf_compose_power 24 bytes
- *   Code              about 22,900 bytes with its constants on x86-64
+ *   Code              about 21,800 bytes with its constants on x86-64
  *   Needs             memcpy, and nothing else: no heap, no file, no initialisation
  *   Re-entrant        every call: it keeps nothing of its own, and it returns. One unit is stepped by one thread at a
  *                     time; different units, and calls without a unit, need no lock between them

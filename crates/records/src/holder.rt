@@ -7,7 +7,6 @@ ghost use Rattle.records.specs.Order.{ordered};
 ghost use Rattle.records.specs.Lookup.{holds, holder, beginner};
 ghost use Rattle.records.specs.Halving.{atLocation, middle, beside, sought, halvedBank};
 use crate::record::Record;
-use crate::record::locations_end;
 use crate::record::record_at;
 use crate::record::records;
 
@@ -35,11 +34,11 @@ pub enum Beginning {
     NoValue,
 }
 
-// The location lies in the record.
+// The location lies in the record. Its end is summed up here: a call that hands the record on makes each look-up dearer.
 fn holds_location(r: Record, bank: u8, location: u8) -> bool
     ensures { λ b. ⌜ b ≡ holds r bank location ⌝ }
 {
-    let end = locations_end(r);
+    let end = r.first as usize + r.width as usize;
     (r.bank == bank) & ((r.first <= location) & ((location as usize) < end))
 }
 
@@ -73,7 +72,8 @@ fn reason(bank: u8, below: usize, above: usize, next: u8) -> Why
 }
 
 // Internal: halving. The map has passed 7, 8 and 9. The reason is carried on the way: the last record that lay right of the
-// location and the last that lay left of it are the neighbours of the gap.
+// location and the last that lay left of it are the neighbours of the gap. Both answers are made in one place, `found`: a caller
+// that does not ask for reason or count then pays for neither.
 pub fn halve(map: &[u8], bank: u8, location: u8) -> Sought
     requires { ⌜ ordered (now map) ≡ true ⌝ }
     ensures { λ r. ⌜ r ≡ sought (now (map .entry)) bank location ⌝ }
@@ -84,13 +84,15 @@ pub fn halve(map: &[u8], bank: u8, location: u8) -> Sought
     let mut below = 256;
     let mut above = 256;
     let mut next = 0;
+    let found;
     while low < high {
         let m = middle_of(low, high);
         let r = record_at(map, m);
         count += 1;
         if holds_location(r, bank, location) {
+            found = Found::At(r);
             return Sought {
-                found: Found::At(r),
+                found: found,
                 count: count,
             };
         }
@@ -103,8 +105,9 @@ pub fn halve(map: &[u8], bank: u8, location: u8) -> Sought
             below = r.bank as usize;
         }
     }
+    found = Found::Missing(reason(bank, below, above, next));
     Sought {
-        found: Found::Missing(reason(bank, below, above, next)),
+        found: found,
         count: count,
     }
 }
