@@ -150,8 +150,8 @@ pub record Examined : Type 0 where
   pub none-of-none : VisitedNone
   -- of fewer than 2 ^ k records at most k
   pub at-most-k : VisitedBound
-  -- and no lower bound holds of a map
-  pub no-lower-bound : VisitedExactly
+  -- and no smaller number would do for a map
+  pub no-smaller : VisitedExactly
   -- each position is that of a record
   pub positions-of-records : VisitedBelow
   -- and none is visited twice

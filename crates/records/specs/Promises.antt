@@ -107,7 +107,7 @@ abbrev pub VisitedBound : Type 0
 VisitedBound =
     (map : List ℕ) (bank location k : ℕ) → length map / 8 < 2 ^ k → length (visited map bank location) ≤ k
 
--- and no lower bound holds: for every bank and location at most k, exactly if there are fewer than 2 ^ k records
+-- and no smaller number would do: at most k for every bank and location, exactly if there are fewer than 2 ^ k records
 abbrev pub VisitedExactly : Type 0
 VisitedExactly =
     (map : List ℕ) → ordered map ≡ true → (k : ℕ)
