@@ -113,7 +113,7 @@ VisitedExactly =
     (map : List ℕ) → ordered map ≡ true → (k : ℕ)
     → ((bank location : ℕ) → length (visited map bank location) ≤ k) ↔ (length map / 8 < 2 ^ k)
 
--- "at most 7 with 64 records": 7 allows no more
+-- "at most 7 with 64 records": rule 7 allows no more records
 abbrev pub VisitedMost : Type 0
 VisitedMost =
     (map : List ℕ) → sizeHolds (length map) ≡ true → (bank location : ℕ) → length (visited map bank location) ≤ 7
