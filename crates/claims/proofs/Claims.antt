@@ -129,7 +129,7 @@ why-missing = record {
 
 examined : Examined
 examined = record {
-  find-examines-at-most-7 = find-most;
+  find-counts-at-most-7 = find-most;
   at-most-7 = visited-most;
   none-of-none = visited-none;
   at-most-k = visited-bound;

@@ -142,8 +142,8 @@ pub record WhyMissing : Type 0 where
 -- ---- How many records one lookup examines (paper 02, Item 5)
 
 pub record Examined : Type 0 where
-  -- "Report the count": a find does, `find-says-which`; "at most 7", whatever is handed in
-  pub find-examines-at-most-7 : FindMost
+  -- "Report the count": a find does, `find-says-which`; of its look-up, at most 7 whatever is handed in
+  pub find-counts-at-most-7 : FindMost
   -- "the length of the list of record positions that the halving rule in your definition visits, at most 7 with 64 records"
   pub at-most-7 : VisitedMost
   -- "and 0 with none"
@@ -156,7 +156,7 @@ pub record Examined : Type 0 where
   pub positions-of-records : VisitedBelow
   -- and none is visited twice
   pub none-twice : VisitedDistinct
-  -- no other record is examined: where two maps agree at these positions, the list is the same
+  -- what other records hold changes nothing: where two maps agree at these positions, the list is the same
   pub list-by-these-alone : VisitedTells
   -- and so is the answer, with its reason
   pub answer-by-these-alone : AnswerTells

@@ -17,7 +17,7 @@ use Rattle.records.specs.declared.holder.Found.the-variants.{At, Missing}
 use Rattle.records.specs.declared.holder.Why.the-variants.{Absent, Hole, Past}
 use Rattle.finds.specs.declared.found.Finding.{Finding}
 
--- a refusal's answer is that the bank is absent, and no record is examined
+-- a refusal's answer is that the bank is absent; nothing was looked up, and its count is 0
 abbrev pub refusedFind : ℕ → Finding
 refusedFind n = record { number = n; found = Missing Absent; count = 0 }
 

@@ -29,7 +29,7 @@ FindRefuses =
     (map : List ℕ) (bank location n : ℕ) → 0 < n
     → (findOf map bank location ≡ refusedFind n) ↔ (orderNumber map ≡ n)
 
--- whatever is handed in, at most 7 records are examined
+-- whatever is handed in, the count is at most 7; it is that of the look-up, and 7 to 9 go over all records before it
 abbrev pub FindMost : Type 0
 FindMost = (map : List ℕ) (bank location : ℕ) → findOf map bank location .count ≤ 7
 

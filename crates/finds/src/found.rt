@@ -13,7 +13,7 @@ pub struct Finding {
     pub count: u8,
 }
 
-// A refusal's answer is that the bank is absent, and no record is examined.
+// A refusal's answer is that the bank is absent; nothing was looked up, and its count is 0.
 fn refused(number: u8) -> Finding
     ensures { λ r. ⌜ r ≡ refusedFind number ⌝ }
 {
@@ -24,7 +24,7 @@ fn refused(number: u8) -> Finding
     }
 }
 
-// Which value holds the location, or why none does; and how many records were examined.
+// Which value holds the location, or why none does; and how many records the look-up examined.
 pub fn find(map: &[u8], bank: u8, location: u8) -> Finding
     ensures { λ r. ⌜ FindPromise (now (map .entry)) bank location r ⌝ }
 {

@@ -1,8 +1,8 @@
 -- The positions that a look-up visits: how many, which, and that it depends on no other record.
 -- Assumes nothing.
-use Prim.Native.Nat.{ℕ, zero, suc, _+_, _*_, _^_, _≤_, _<_, _-_, _/_, suc-le-suc}
-use mathlib.Core.Path.{_≡_, refl, ap, sym, subst, _∙_}
-use mathlib.Core.Logic.{_⊎_, inl, inr, ⊎-elim}
+use Prim.Native.Nat.{ℕ, zero, suc, _+_, _^_, _≤_, _<_, _-_, _/_, suc-le-suc}
+use mathlib.Core.Path.{_≡_, refl, ap, sym, _∙_}
+use mathlib.Core.Logic.{inl, inr, ⊎-elim}
 use mathlib.Core.Bool.{Bool, true, false}
 use mathlib.Core.List.{List, [], _∷_, List·Memᴰ, List·Memᴰ·not-nil, List·Memᴰ·cases-cons, map as each}
 use mathlib.Core.List.{List·Memᴰ·head, List·Memᴰ·tail}
@@ -195,15 +195,9 @@ visited-exactly map o k = (
   λ f.
       let r = recordAt map 0 in
       let n = length map / 8 in
-      ⊎-elim (λ h. h)
-      (λ h.
+      if-lt (λ (b : Bool). n < 2 ^ k) n (2 ^ k) {x = true} {y = false} (λ h. h) (λ h.
       let most = f (r .bank) (r .first) in
       let more = met map o k n n (omega arith) (omega arith) h in
-      absurd (omega arith))
-      (either-side n (2 ^ k)),
+      absurd (omega arith)),
   λ h bank location. visited-bound map bank location k h,
 )
-  where
-    either-side : (m n : ℕ) → (m < n) ⊎ (n ≤ m)
-    either-side m n =
-        if-lt (λ (b : Bool). (m < n) ⊎ (n ≤ m)) m n {x = true} {y = false} (λ h. inl h) (λ h. inr h)
