@@ -149,8 +149,8 @@ static inline uint32_t mf_offset(uint32_t look) { return look >> 16; }
 
 /* Of mf_find: number | what << 8 | location << 16 | width << 24 | count << 32. mf_what is one of these. mf_place: of MF_FOUND
  * the value's first location, of MF_HOLE the next mapped location in that bank, else 0. mf_place_width: of MF_FOUND the
- * value's width, else 0. mf_count: how many records of the map were examined: at most 7, at most 6 where it has fewer than 64, at
- * most 5 where it has fewer than 32 and so on, 0 where it has none. */
+ * value's width, else 0. mf_count: how many records of the map the look-up examined, which comes behind the tests of the map:
+ * at most 7, at most 6 where it has fewer than 64, at most 5 where it has fewer than 32 and so on, 0 where it has none. */
 enum {
     MF_FOUND = 0,  /* a value holds the location */
     MF_ABSENT = 1, /* no value lies in the bank */
@@ -233,7 +233,7 @@ uint32_t mf_look(const uint8_t *map, size_t map_length, const uint8_t *store, si
                  uint32_t location);
 
 /* Which value of the map holds the location, or why none does: the bank is absent, the location lies in a hole, or past the
- * bank's last mapped location; and how many records were examined. The map alone decides; there is neither store nor image.
+ * bank's last mapped location; and how many records the look-up examined. The map alone decides; there is neither store nor image.
  * 7, 8, 9, then 6 for a bank or location over 255. */
 uint64_t mf_find(const uint8_t *map, size_t map_length, uint32_t bank, uint32_t location);
 
