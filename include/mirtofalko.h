@@ -2,9 +2,9 @@
  *
  *   State of a unit   96 bytes
  *   Stack             at most 2,048 bytes for any call. Measured on x86-64: mf_check 128, mf_start 336, mf_frame 912,
- *                     mf_power_on 880, mf_run 1536, mf_look 160, mf_find 80, mf_read 288, mf_write 40, mf_compose_event 56,
- *                     mf_compose_power 24 bytes
- *   Code              about 21,800 bytes with its constants on x86-64
+ *                     mf_power_on 880, mf_run 1536, mf_look 160, mf_find 80, mf_compare 224, mf_read 288, mf_write 40,
+ *                     mf_compose_event 56, mf_compose_power 24 bytes
+ *   Code              about 22,400 bytes with its constants on x86-64
  *   Needs             memcpy, and nothing else: no heap, no file, no initialisation
  *   Re-entrant        every call: it keeps nothing of its own, and it returns. One unit is stepped by one thread at a
  *                     time; different units, and calls without a unit, need no lock between them
@@ -19,7 +19,7 @@
  * `mf_unit` (below) holds them side by side, so that a call names the unit only.
  *
  * Every call is proved: for all inputs its answer, the state and the store are what the definitions say. The
- * definitions stand in crates/faces/specs, those of mf_find in crates/finds/specs.
+ * definitions stand in crates/faces/specs, those of mf_find in crates/finds/specs and of mf_compare in crates/compare/specs.
  *
  * What no call can check, and you must see to:
  *   - Each pointer is good for as many bytes as the length beside it says, and is not null, also for the length 0.
@@ -38,7 +38,7 @@
 #include <stdint.h>
 
 /* The interface counts up where a call, an answer or the state's bytes change; then you compile anew. */
-#define MF_INTERFACE 5
+#define MF_INTERFACE 6
 #define MF_VERSION "1.0"
 #define MF_VERSION_MAJOR 1
 #define MF_VERSION_MINOR 0
@@ -47,8 +47,8 @@
 extern "C" {
 #endif
 
-/* The numbers. 0 is no refusal. A refused call changes neither state nor store; only a refused start writes a state,
- * all zeros. Where several rules are broken the first in the call's order gives its number. mf_text says each. */
+/* The numbers. 0 is no refusal. A refused call changes neither state nor store nor mf_compare's output; only a refused start
+ * writes a state, all zeros. Where several rules are broken the first in the call's order gives its number. mf_text says each. */
 enum {
     MF_OK = 0,
     MF_BAD_FRAME = 1,          /* frame 16,777,216 or more */
@@ -64,13 +64,16 @@ enum {
     MF_BAD_BANK = 11,          /* a bank rule of 0x00, 0x02 or bank 0 broken */
     MF_BAD_STATE = 12,         /* a rule of a state broken; also 96 bytes that are no state */
     MF_BAD_TRACE_RECORD = 13,  /* trace record unfinished or of unknown kind */
-    MF_BAD_LOCATION = 14       /* no value begins there */
+    MF_BAD_LOCATION = 14,      /* no value begins there */
+    MF_BAD_ROOM = 15           /* output room too small for the whole list */
 };
 
 enum {
     MF_STATE_BYTES = 96,  /* a state */
     MF_RECORD_BYTES = 8,  /* a record of mf_run: clock (4, high byte first), kind, frame (3, high byte first) */
     MF_OUTPUT_BYTES = 4,  /* what mf_run writes for it: number, answered 0/1, answer or 0, zero */
+    MF_DIFFERENCE_BYTES = 24, /* what mf_compare writes for a value: bank, first location, width, kind, four zeros, its old
+                               * bytes and its new bytes, each 8, zero filled at the end */
     MF_NO_ADDRESS = 255,  /* the address of a unit that has none */
     MF_NO_GROUP = 255     /* the primary group of an instance that has none */
 };
@@ -135,6 +138,7 @@ static inline const char *mf_text(uint32_t number) {
     case MF_BAD_STATE: return "a rule of a state broken";
     case MF_BAD_TRACE_RECORD: return "trace record unfinished or of unknown kind";
     case MF_BAD_LOCATION: return "no value begins there";
+    case MF_BAD_ROOM: return "output room too small for the whole list";
     default: return "no such number";
     }
 }
@@ -161,6 +165,9 @@ static inline uint32_t mf_what(uint64_t find) { return (uint32_t)(find >> 8 & 0x
 static inline uint32_t mf_place(uint64_t find) { return (uint32_t)(find >> 16 & 0xFF); }
 static inline uint32_t mf_place_width(uint64_t find) { return (uint32_t)(find >> 24 & 0xFF); }
 static inline uint32_t mf_count(uint64_t find) { return (uint32_t)(find >> 32 & 0xFF); }
+
+/* Of mf_compare: number | count << 8. How many values differ: at most 64, and 0 where the stores are alike. */
+static inline uint32_t mf_differing(uint32_t compared) { return compared >> 8; }
 
 /* Of mf_write, mf_compose_event, mf_compose_power: number | frame << 8. */
 static inline uint32_t mf_frame_of(uint32_t written) { return written >> 8; }
@@ -237,6 +244,16 @@ uint32_t mf_look(const uint8_t *map, size_t map_length, const uint8_t *store, si
  * 7, 8, 9, then 6 for a bank or location over 255. */
 uint64_t mf_find(const uint8_t *map, size_t map_length, uint32_t bank, uint32_t location);
 
+/* Which values of the map differ between two stores: a list in `output`, MF_DIFFERENCE_BYTES for each, in map order; no header.
+ * Lock bytes and values that are not writable are listed too, bytes under no record never. The rest of `output` stays, and room
+ * of exactly the list is enough: 64 values need 1,536 bytes, none need none. Both stores may be one buffer.
+ * Each difference's new bytes, put where mf_look finds its value, make of the old store the new one, value by value; and its old
+ * bytes of the new store the old one.
+ * 7 to 11 for the old store with the new one in the image's place, 7 to 11 for the new store with the old one (of which only 11
+ * can still come: its byte at 0x00), then 15. */
+uint32_t mf_compare(const uint8_t *map, size_t map_length, const uint8_t *old_store, size_t old_length,
+                    const uint8_t *new_store, size_t new_length, uint8_t *output, size_t output_length);
+
 /* ---- the unit as one thing ----
  *
  * Begin with zeros (a static one has them) and set the parts by their names. A part that is null has to have the length
@@ -294,6 +311,13 @@ static inline uint32_t mf_unit_look(const mf_unit *unit, uint32_t bank, uint32_t
 
 static inline uint64_t mf_unit_find(const mf_unit *unit, uint32_t bank, uint32_t location) {
     return mf_find(mf_lent(unit->map), unit->map_length, bank, location);
+}
+
+/* The unit's store is the old one. */
+static inline uint32_t mf_unit_compare(const mf_unit *unit, const uint8_t *new_store, size_t new_length, uint8_t *output,
+                                       size_t output_length) {
+    return mf_compare(mf_lent(unit->map), unit->map_length, mf_lent(unit->store), unit->store_length, mf_lent(new_store),
+                      new_length, mf_lent_to_change(output), output_length);
 }
 
 /* The bytes that a look found, mf_width(look) of them. */

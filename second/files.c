@@ -3,15 +3,8 @@
 
 #include <string.h>
 
-/* A missing file counts as empty. Reads one byte over the limit at most. */
-static size_t read_file(const char *folder, const char *name, uint8_t *bytes,
-                        size_t limit)
+size_t read_file(const char *path, uint8_t *bytes, size_t limit)
 {
-    char path[4096];
-    int length = snprintf(path, sizeof path, "%s/%s", folder, name);
-    if (length < 0 || (size_t)length >= sizeof path) {
-        return 0;
-    }
     FILE *file = fopen(path, "rb");
     if (file == NULL) {
         return 0;
@@ -21,13 +14,24 @@ static size_t read_file(const char *folder, const char *name, uint8_t *bytes,
     return count;
 }
 
+static size_t read_from(const char *folder, const char *name, uint8_t *bytes,
+                        size_t limit)
+{
+    char path[4096];
+    int length = snprintf(path, sizeof path, "%s/%s", folder, name);
+    if (length < 0 || (size_t)length >= sizeof path) {
+        return 0;
+    }
+    return read_file(path, bytes, limit);
+}
+
 void read_files(const char *folder, Files *files)
 {
     memset(files, 0, sizeof *files);
-    files->map_len = read_file(folder, "unit.map", files->map, MAP_LIMIT);
-    files->store_len = read_file(folder, "unit.sto", files->store, STORE_LIMIT);
-    files->image_len = read_file(folder, "unit.rst", files->image, STORE_LIMIT);
-    files->adr_len = read_file(folder, "unit.adr", files->adr, ADR_BYTES);
+    files->map_len = read_from(folder, "unit.map", files->map, MAP_LIMIT);
+    files->store_len = read_from(folder, "unit.sto", files->store, STORE_LIMIT);
+    files->image_len = read_from(folder, "unit.rst", files->image, STORE_LIMIT);
+    files->adr_len = read_from(folder, "unit.adr", files->adr, ADR_BYTES);
 }
 
 /* Four bytes, high first. */

@@ -24,6 +24,9 @@ typedef struct Files {
     size_t adr_len;
 } Files;
 
+/* A missing file counts as empty. Reads one byte over the limit at most. */
+size_t read_file(const char *path, uint8_t *bytes, size_t limit);
+
 /* Reads unit.map, unit.sto, unit.rst, unit.adr of a folder. */
 void read_files(const char *folder, Files *files);
 

@@ -764,6 +764,497 @@ static void find_refusals(void)
     expect(second_find(long_map, 520, 0, 0) == MAP_LENGTH, "find: map of 520");
 }
 
+/* ---- the compare call ---- */
+
+/* One map, two stores, and an output with bytes past the longest list. */
+typedef struct Images {
+    uint8_t map[MAP_LIMIT];
+    size_t map_len;
+    uint8_t old_store[512];
+    size_t old_len;
+    uint8_t new_store[512];
+    size_t new_len;
+    uint8_t output[64 * 24 + 8];
+} Images;
+
+enum { BEFORE = 0xA5 }; /* the output before a call, all over */
+
+static uint32_t compare(Images *images, size_t room)
+{
+    memset(images->output, BEFORE, sizeof images->output);
+    return second_compare(images->map, images->map_len, images->old_store,
+                          images->old_len, images->new_store, images->new_len,
+                          images->output, room);
+}
+
+/* The output has these bytes, and past them nothing was written. */
+static bool outputs(const Images *images, const void *list, size_t count)
+{
+    const uint8_t *bytes = list;
+    for (size_t i = 0; i < sizeof images->output; i++) {
+        if (images->output[i] != (i < count ? bytes[i] : BEFORE)) {
+            return false;
+        }
+    }
+    return true;
+}
+
+/* A list of so many values, in a room of exactly its bytes. */
+static bool lists(Images *images, const void *list, uint32_t count)
+{
+    return compare(images, count * 24) == count << 8
+           && outputs(images, list, count * 24);
+}
+
+/* No value differs, which needs no room. */
+static bool alike(Images *images)
+{
+    return lists(images, NULL, 0);
+}
+
+/* A refusal is its number alone and leaves the output untouched. */
+static bool refuses(Images *images, size_t room, uint32_t number)
+{
+    return compare(images, room) == number && outputs(images, NULL, 0);
+}
+
+/* The bench sheet's store is the old one, its image the new one. */
+static Images sheet_images(void)
+{
+    Images images = {0};
+    memcpy(images.map, sheet_map, sizeof sheet_map);
+    memcpy(images.old_store, sheet_store, sizeof sheet_store);
+    memcpy(images.new_store, sheet_image, sizeof sheet_image);
+    images.map_len = sizeof sheet_map;
+    images.old_len = sizeof sheet_store;
+    images.new_len = sizeof sheet_image;
+    return images;
+}
+
+/* Two stores that are alike: 0x40 on, but the bytes at 0x00. */
+static Images wide_images(void)
+{
+    Images images = {0};
+    memcpy(images.map, wide_map, sizeof wide_map);
+    images.map_len = sizeof wide_map;
+    images.old_len = WIDE_STORE;
+    images.new_len = WIDE_STORE;
+    for (size_t i = 0; i < WIDE_STORE; i++) {
+        images.old_store[i] = (uint8_t)(0x40 + i);
+    }
+    images.old_store[0] = 0x03;
+    images.old_store[3] = 0x11;
+    images.old_store[17] = 0xFE;
+    memcpy(images.new_store, images.old_store, WIDE_STORE);
+    return images;
+}
+
+static void compare_sheet(void)
+{
+    static const uint8_t value[24] = {
+        2, 3, 4, 4, 0, 0, 0, 0, 0, 0, 0, 0x64, 0, 0, 0, 0, 0, 0, 0, 0x32};
+    static const uint8_t back[24] = {
+        2, 3, 4, 4, 0, 0, 0, 0, 0, 0, 0, 0x32, 0, 0, 0, 0, 0, 0, 0, 0x64};
+    static const uint8_t three[3][24] = {
+        {2, 0, 1, 0, 0, 0, 0, 0, 0x06, 0, 0, 0, 0, 0, 0, 0, 0xFE},
+        {2, 2, 1, 2, 0, 0, 0, 0, 0xFF, 0, 0, 0, 0, 0, 0, 0, 0x55},
+        {2, 3, 4, 4, 0, 0, 0, 0, 0, 0, 0, 0x64, 0, 0, 0, 0, 0, 0, 0, 0x32}};
+    Images images = sheet_images();
+    expect(lists(&images, value, 1), "the bench sheet differs in one value");
+    memcpy(images.old_store, sheet_image, sizeof sheet_image);
+    memcpy(images.new_store, sheet_store, sizeof sheet_store);
+    expect(lists(&images, back, 1), "the first store is the old one");
+    memcpy(images.old_store, sheet_store, sizeof sheet_store);
+    expect(alike(&images), "the bench sheet's store is like itself");
+    memcpy(images.new_store, sheet_image, sizeof sheet_image);
+    images.new_store[0] = 0xFE;
+    images.new_store[1] = 0x55;
+    expect(lists(&images, three, 3), "ROM, lock byte and NVM-RW");
+}
+
+/* Every value but bank 9's byte at 0x00, which can only be 0xFE. */
+static void compare_wide(void)
+{
+    static const uint8_t list[12][24] = {
+        {0, 0x00, 1, 0, 0, 0, 0, 0, 0x03, 0, 0, 0, 0, 0, 0, 0, 0x04},
+        {0, 0x02, 2, 3, 0, 0, 0, 0, 0x41, 0x42, 0, 0, 0, 0, 0, 0, 0x81, 0x82},
+        {2, 0x00, 1, 0, 0, 0, 0, 0, 0x11, 0, 0, 0, 0, 0, 0, 0, 0x12},
+        {2, 0x02, 1, 2, 0, 0, 0, 0, 0x44, 0, 0, 0, 0, 0, 0, 0, 0x84},
+        {2, 0x03, 4, 4, 0, 0, 0, 0, 0x45, 0x46, 0x47, 0x48, 0, 0, 0, 0,
+         0x85, 0x86, 0x87, 0x88},
+        {2, 0x07, 1, 4, 0, 0, 0, 0, 0x49, 0, 0, 0, 0, 0, 0, 0, 0x89},
+        {2, 0x08, 2, 2, 0, 0, 0, 0, 0x4A, 0x4B, 0, 0, 0, 0, 0, 0, 0x8A, 0x8B},
+        {2, 0x0B, 3, 4, 0, 0, 0, 0, 0x4C, 0x4D, 0x4E, 0, 0, 0, 0, 0,
+         0x8C, 0x8D, 0x8E},
+        {2, 0x10, 2, 1, 0, 0, 0, 0, 0x4F, 0x50, 0, 0, 0, 0, 0, 0, 0x8F, 0x90},
+        {9, 0x02, 1, 2, 0, 0, 0, 0, 0x52, 0, 0, 0, 0, 0, 0, 0, 0x92},
+        {9, 0x03, 8, 4, 0, 0, 0, 0,
+         0x53, 0x54, 0x55, 0x56, 0x57, 0x58, 0x59, 0x5A,
+         0x93, 0x94, 0x95, 0x96, 0x97, 0x98, 0x99, 0x9A},
+        {9, 0xFD, 2, 4, 0, 0, 0, 0, 0x5B, 0x5C, 0, 0, 0, 0, 0, 0, 0x9B, 0x9C},
+    };
+    Images images = wide_images();
+    for (size_t i = 0; i < WIDE_STORE; i++) {
+        images.new_store[i] = (uint8_t)(0x80 + i);
+    }
+    images.new_store[0] = 0x04;
+    images.new_store[3] = 0x12;
+    images.new_store[17] = 0xFE;
+    expect(lists(&images, list, 12), "map order over three banks");
+    memcpy(images.new_store, images.old_store, WIDE_STORE);
+    expect(alike(&images), "three banks that are alike");
+}
+
+/* A byte of the new store, and the value that is listed for it. */
+typedef struct Change {
+    size_t place;
+    uint8_t byte;
+    uint8_t listed[24];
+    const char *what;
+} Change;
+
+/* One byte of a value is enough, and only that value is listed. */
+static void compare_one_byte(void)
+{
+    static const Change changes[] = {
+        {0, 0xFE, {0, 0x00, 1, 0, 0, 0, 0, 0, 0x03, 0, 0, 0, 0, 0, 0, 0, 0xFE},
+         "a ROM value is listed"},
+        {2, 0x43, {0, 0x02, 2, 3, 0, 0, 0, 0, 0x41, 0x42, 0, 0, 0, 0, 0, 0,
+                   0x41, 0x43},
+         "an NVM-RO value is listed"},
+        {15, 0x00, {2, 0x10, 2, 1, 0, 0, 0, 0, 0x4F, 0x50, 0, 0, 0, 0, 0, 0,
+                    0x00, 0x50},
+         "a RAM-RO value is listed"},
+        {10, 0x00, {2, 0x08, 2, 2, 0, 0, 0, 0, 0x4A, 0x4B, 0, 0, 0, 0, 0, 0,
+                    0x00, 0x4B},
+         "a RAM-RW value is listed"},
+        {18, 0xFF, {9, 0x02, 1, 2, 0, 0, 0, 0, 0x52, 0, 0, 0, 0, 0, 0, 0, 0xFF},
+         "a lock byte is listed"},
+        {9, 0x48, {2, 0x07, 1, 4, 0, 0, 0, 0, 0x49, 0, 0, 0, 0, 0, 0, 0, 0x48},
+         "a value of width 1"},
+        {19, 0x00, {9, 0x03, 8, 4, 0, 0, 0, 0, 0x53, 0x54, 0x55, 0x56, 0x57,
+                    0x58, 0x59, 0x5A, 0x00, 0x54, 0x55, 0x56, 0x57, 0x58, 0x59,
+                    0x5A},
+         "the first byte of a value of width 8"},
+        {23, 0x56, {9, 0x03, 8, 4, 0, 0, 0, 0, 0x53, 0x54, 0x55, 0x56, 0x57,
+                    0x58, 0x59, 0x5A, 0x53, 0x54, 0x55, 0x56, 0x56, 0x58, 0x59,
+                    0x5A},
+         "a middle byte of a value of width 8"},
+        {26, 0xDA, {9, 0x03, 8, 4, 0, 0, 0, 0, 0x53, 0x54, 0x55, 0x56, 0x57,
+                    0x58, 0x59, 0x5A, 0x53, 0x54, 0x55, 0x56, 0x57, 0x58, 0x59,
+                    0xDA},
+         "the last byte of a value of width 8"},
+        {28, 0x5D, {9, 0xFD, 2, 4, 0, 0, 0, 0, 0x5B, 0x5C, 0, 0, 0, 0, 0, 0,
+                    0x5B, 0x5D},
+         "the last byte of the store"},
+    };
+    for (size_t i = 0; i < sizeof changes / sizeof changes[0]; i++) {
+        Images images = wide_images();
+        images.new_store[changes[i].place] = changes[i].byte;
+        expect(lists(&images, changes[i].listed, 1), changes[i].what);
+    }
+}
+
+/* Store bytes under no record are never listed: behind all places, before
+   them, and between them. */
+static void compare_under_no_record(void)
+{
+    static const uint8_t listed[24] = {2, 3, 4, 4, 0, 0, 0, 0, 1, 2, 3, 4,
+                                       0, 0, 0, 0, 1, 2, 3, 5};
+    Images images = wide_images();
+    images.old_len = WIDE_STORE + 3;
+    images.new_len = WIDE_STORE + 3;
+    memset(images.new_store + WIDE_STORE, 0x77, 3);
+    expect(alike(&images), "bytes behind all places");
+    images = sheet_images();
+    images.map[7] = 2;
+    images.map[15] = 4;
+    images.map[23] = 6;
+    images.old_len = 12;
+    images.new_len = 12;
+    memcpy(images.old_store, "\1\2\6\3\xFF\4\1\2\3\4\5\6", 12);
+    memcpy(images.new_store, "\7\7\6\7\xFF\7\1\2\3\4\7\7", 12);
+    expect(alike(&images), "bytes before and between places");
+    images.new_store[9] = 5;
+    expect(lists(&images, listed, 1), "they are not in a record either");
+}
+
+/* The list follows the map where the places in the store fall. */
+static void compare_falling_places(void)
+{
+    static const uint8_t list[2][24] = {
+        {2, 2, 1, 2, 0, 0, 0, 0, 0xFF, 0, 0, 0, 0, 0, 0, 0, 0x55},
+        {2, 3, 4, 4, 0, 0, 0, 0, 1, 2, 3, 4, 0, 0, 0, 0, 1, 2, 3, 5}};
+    Images images = sheet_images();
+    images.map[7] = 5;
+    images.map[15] = 4;
+    images.map[23] = 0;
+    memcpy(images.old_store, "\1\2\3\4\xFF\6", 6);
+    memcpy(images.new_store, "\1\2\3\5\x55\6", 6);
+    expect(lists(&images, list, 2), "map order, not store order");
+}
+
+/* A list that doesn't fit is 15; room of exactly the list is enough. */
+static void compare_room(void)
+{
+    static const uint8_t list[2][24] = {
+        {2, 2, 1, 2, 0, 0, 0, 0, 0xFF, 0, 0, 0, 0, 0, 0, 0, 0x00},
+        {2, 3, 4, 4, 0, 0, 0, 0, 0, 0, 0, 0x64, 0, 0, 0, 0, 0, 0, 0, 0x32}};
+    Images images = sheet_images();
+    expect(refuses(&images, 23, ROOM_TOO_SMALL), "23 bytes for one value: 15");
+    expect(refuses(&images, 0, ROOM_TOO_SMALL), "no room for one value: 15");
+    expect(second_compare(sheet_map, 24, sheet_store, 6, sheet_image, 6, NULL,
+                          0)
+               == ROOM_TOO_SMALL,
+           "no room and no output: 15");
+    images.new_store[1] = 0;
+    expect(refuses(&images, 47, ROOM_TOO_SMALL), "47 bytes for two: 15");
+    expect(refuses(&images, 24, ROOM_TOO_SMALL), "24 bytes for two: 15");
+    expect(lists(&images, list, 2), "48 bytes for two");
+    expect(compare(&images, 49) == 0x200 && outputs(&images, list, 48),
+           "49 bytes for two: the last stays");
+    expect(compare(&images, sizeof images.output) == 0x200
+               && outputs(&images, list, 48),
+           "bytes past the list stay");
+    memcpy(images.new_store, sheet_store, sizeof sheet_store);
+    expect(compare(&images, sizeof images.output) == 0
+               && outputs(&images, NULL, 0),
+           "an empty list leaves all of the output");
+    expect(second_compare(sheet_map, 24, sheet_store, 6, images.new_store, 6,
+                          NULL, 0)
+               == 0,
+           "no difference needs no output");
+}
+
+/* 64 values, eight in each of eight banks, each at a place of 8 bytes, the
+   last value's place first. All bytes of the two stores differ, also those
+   between a value and the next place. */
+static const uint8_t full_first[8] = {0, 2, 0x10, 0x20, 0x30, 0x40, 0x50, 0x60};
+static const uint8_t full_width[8] = {1, 1, 8, 7, 6, 5, 3, 2};
+static const uint8_t full_kind[8] = {0, 2, 0, 1, 2, 3, 4, 4};
+
+static size_t full_place(size_t p)
+{
+    return 8 * (63 - p);
+}
+
+static Images full_images(void)
+{
+    Images images = {0};
+    images.map_len = 512;
+    images.old_len = 512;
+    images.new_len = 512;
+    for (size_t i = 0; i < 512; i++) {
+        images.old_store[i] = (uint8_t)(i % 127 + 1);
+        images.new_store[i] = (uint8_t)(i % 127 + 129);
+    }
+    for (size_t p = 0; p < 64; p++) {
+        const uint8_t record[8] = {(uint8_t)(p / 8 * 20 + 1),
+                                   full_first[p % 8],
+                                   full_width[p % 8],
+                                   full_kind[p % 8],
+                                   0,
+                                   0,
+                                   (uint8_t)(full_place(p) >> 8),
+                                   (uint8_t)(full_place(p) & 0xFF)};
+        memcpy(images.map + p * 8, record, 8);
+        if (p % 8 == 0) {
+            images.old_store[full_place(p)] = 0x61;
+            images.new_store[full_place(p)] = 0xFE;
+        }
+    }
+    return images;
+}
+
+/* The record of one of the 64 values. */
+static void full_record(const Images *images, size_t p, uint8_t record[24])
+{
+    memset(record, 0, 24);
+    record[0] = (uint8_t)(1 + 20 * (p / 8));
+    record[1] = full_first[p % 8];
+    record[2] = full_width[p % 8];
+    record[3] = full_kind[p % 8];
+    for (size_t i = 0; i < full_width[p % 8]; i++) {
+        record[8 + i] = images->old_store[8 * (63 - p) + i];
+        record[16 + i] = images->new_store[8 * (63 - p) + i];
+    }
+}
+
+static void compare_64(void)
+{
+    uint8_t list[64][24];
+    Images images = full_images();
+    for (size_t p = 0; p < 64; p++) {
+        full_record(&images, p, list[p]);
+    }
+    expect(lists(&images, list, 64), "64 values in 1,536 bytes");
+    expect(refuses(&images, 1535, ROOM_TOO_SMALL), "in 1,535: 15");
+    memcpy(images.new_store + full_place(29), images.old_store + full_place(29),
+           full_width[29 % 8]);
+    memmove(&list[29], &list[30], sizeof list[0] * 34);
+    expect(lists(&images, list, 63), "63 values, one of 64 is alike");
+    expect(refuses(&images, 1511, ROOM_TOO_SMALL), "in 1,511: 15");
+    memcpy(images.new_store, images.old_store, 512);
+    expect(alike(&images), "64 values that are alike");
+}
+
+/* The bench sheet with one byte of its map changed, in more than enough
+   room. */
+static uint32_t compare_map_byte(size_t index, uint8_t byte)
+{
+    Images images = sheet_images();
+    images.map[index] = byte;
+    uint32_t answer = compare(&images, 100);
+    return outputs(&images, NULL, 0) ? answer : UINT32_MAX;
+}
+
+/* 7 to 11 where the map is at fault. */
+static void compare_map_refusals(void)
+{
+    static const uint8_t long_map[520] = {0};
+    Images images = sheet_images();
+    images.map_len = 23;
+    expect(refuses(&images, 100, MAP_LENGTH), "compare: map of 23");
+    expect(second_compare(long_map, 513, NULL, 0, NULL, 0, NULL, 0)
+               == MAP_LENGTH,
+           "compare: map of 513");
+    expect(second_compare(long_map, 520, NULL, 0, NULL, 0, NULL, 0)
+               == MAP_LENGTH,
+           "compare: map of 520");
+    expect(compare_map_byte(19, 5) == RECORD_FIELDS, "compare: kind 5");
+    expect(compare_map_byte(18, 9) == RECORD_FIELDS, "compare: width 9");
+    expect(compare_map_byte(17, 2) == RECORD_ORDER, "compare: equal firsts");
+    expect(compare_map_byte(16, 1) == RECORD_ORDER, "compare: bank falls");
+    expect(compare_map_byte(23, 3) == STORE_PLACES, "compare: place outside");
+    expect(compare_map_byte(23, 1) == STORE_PLACES, "compare: place shared");
+    expect(compare_map_byte(3, 1) == BANK_RULE, "compare: 0x00 not ROM");
+    expect(compare_map_byte(11, 4) == BANK_RULE, "compare: lock byte NVM-RW");
+    expect(compare_map_byte(12, 1) == BANK_RULE, "compare: lock byte lockable");
+}
+
+static Images images_of_lengths(size_t old_len, size_t new_len)
+{
+    Images images = sheet_images();
+    images.old_len = old_len;
+    images.new_len = new_len;
+    return images;
+}
+
+/* 10 where the lengths are at fault: each is the image's for the other. */
+static void compare_length_refusals(void)
+{
+    Images images = images_of_lengths(6, 5);
+    expect(refuses(&images, 100, STORE_PLACES), "the second is shorter");
+    images = images_of_lengths(5, 6);
+    expect(refuses(&images, 100, STORE_PLACES), "the first is shorter");
+    images = images_of_lengths(6, 7);
+    expect(refuses(&images, 100, STORE_PLACES), "the second is longer");
+    images = images_of_lengths(7, 6);
+    expect(refuses(&images, 100, STORE_PLACES), "the first is longer");
+    images = images_of_lengths(5, 5);
+    expect(refuses(&images, 100, STORE_PLACES), "both are too short");
+    images = images_of_lengths(0, 0);
+    expect(refuses(&images, 100, STORE_PLACES), "both are empty");
+    images = images_of_lengths(7, 7);
+    expect(compare(&images, 100) == 0x100, "both are longer than the places");
+}
+
+/* The bench sheet's bytes at 0x00 as told; 6 is the highest location. */
+static Images images_with_last(uint8_t old_byte, uint8_t new_byte)
+{
+    Images images = sheet_images();
+    images.old_store[0] = old_byte;
+    images.new_store[0] = new_byte;
+    return images;
+}
+
+/* 11 where a store is at fault: both stores' bytes at 0x00 are tested. */
+static void compare_store_refusals(void)
+{
+    Images images = images_with_last(5, 6);
+    expect(refuses(&images, 100, BANK_RULE), "0x00 too low in the first");
+    images = images_with_last(6, 5);
+    expect(refuses(&images, 100, BANK_RULE), "0x00 too low in the second");
+    images = images_with_last(5, 5);
+    expect(refuses(&images, 100, BANK_RULE), "0x00 too low in both");
+    images = images_with_last(255, 6);
+    expect(refuses(&images, 100, BANK_RULE), "0x00 holds 255 in the first");
+    images = images_with_last(6, 255);
+    expect(refuses(&images, 100, BANK_RULE), "0x00 holds 255 in the second");
+    images = images_with_last(254, 6);
+    expect(compare(&images, 100) == 0x200, "254 in the first is sound");
+    images = images_with_last(6, 254);
+    expect(compare(&images, 100) == 0x200, "254 in the second is sound");
+    images = wide_images();
+    images.new_store[17] = 0xFD;
+    expect(refuses(&images, 100, BANK_RULE), "the second's last bank");
+    images = wide_images();
+    images.old_store[17] = 0xFD;
+    expect(refuses(&images, 100, BANK_RULE), "the first's last bank");
+}
+
+/* Each number stands before the next one; no room at all. */
+static void compare_order(void)
+{
+    Images images = sheet_images();
+    expect(refuses(&images, 0, ROOM_TOO_SMALL), "15 alone");
+    images.new_store[0] = 5;
+    expect(refuses(&images, 0, BANK_RULE), "the second's 11 before 15");
+    images.new_store[0] = 6;
+    images.old_store[0] = 5;
+    expect(refuses(&images, 0, BANK_RULE), "the first's 11 before 15");
+    images.new_len = 7;
+    expect(refuses(&images, 0, STORE_PLACES), "10 before the first's 11");
+    images.old_store[0] = 6;
+    images.new_store[0] = 5;
+    expect(refuses(&images, 0, STORE_PLACES), "10 before the second's 11");
+    images.map[17] = 2;
+    expect(refuses(&images, 0, RECORD_ORDER), "compare: 9 before 10");
+    images.map[19] = 5;
+    expect(refuses(&images, 0, RECORD_FIELDS), "compare: 8 before 9");
+    images.map_len = 25;
+    expect(refuses(&images, 0, MAP_LENGTH), "compare: 7 before 8");
+}
+
+/* Both stores may be one and the same buffer. */
+static void compare_one_buffer(void)
+{
+    uint8_t store[6];
+    uint8_t output[24] = {0};
+    memcpy(store, sheet_store, sizeof store);
+    expect(second_compare(sheet_map, 24, store, 6, store, 6, output, 0) == 0,
+           "one buffer is like itself");
+    expect(second_compare(sheet_map, 24, store, 6, store, 5, output, 24)
+               == STORE_PLACES,
+           "one buffer of two lengths: 10");
+    store[0] = 5;
+    expect(second_compare(sheet_map, 24, store, 6, store, 6, output, 24)
+               == BANK_RULE,
+           "one unsound buffer: 11");
+}
+
+/* An empty map has no value that could differ. */
+static void compare_empty_map(void)
+{
+    static const uint8_t zeros[4097] = {0};
+    static uint8_t ones[4097];
+    uint8_t output[24] = {0};
+    memset(ones, 1, sizeof ones);
+    expect(second_compare(NULL, 0, NULL, 0, NULL, 0, NULL, 0) == 0,
+           "nothing at all is alike");
+    expect(second_compare(NULL, 0, zeros, 4096, ones, 4096, output, 0) == 0,
+           "an empty map lists nothing");
+    expect(second_compare(NULL, 0, zeros, 4097, ones, 4097, output, 24)
+               == STORE_PLACES,
+           "compare: stores of 4,097");
+    expect(second_compare(NULL, 0, zeros, 4096, ones, 4095, output, 24)
+               == STORE_PLACES,
+           "an empty map, lengths differ");
+    expect(second_compare(NULL, 0, NULL, 0, ones, 1, output, 24)
+               == STORE_PLACES,
+           "an empty map, no first store");
+}
+
 /* ---- state and clock ---- */
 
 static void start_calls(void)
@@ -1508,6 +1999,117 @@ static bool find_anything(const Places *places)
            && answer >> 32 <= bound_of(places->map_len / 8);
 }
 
+/* The kind of the value that begins at a place; 255 where none does. */
+static uint8_t kind_at(const Places *places, uint8_t bank, uint8_t first)
+{
+    for (size_t i = 0; i + 8 <= places->map_len; i += 8) {
+        if (places->map[i] == bank && places->map[i + 1] == first) {
+            return places->map[i + 3];
+        }
+    }
+    return 255;
+}
+
+/* A record of a list names a value, with its bytes in both stores, and these
+   differ. Its new bytes are put on a copy of the old store. */
+static bool put_listed(const Places *places, const uint8_t *new_store,
+                       const uint8_t *record, uint8_t *copy)
+{
+    uint8_t wanted[24] = {record[0], record[1]};
+    uint32_t look_at =
+        second_look(places->map, places->map_len, places->store,
+                    places->store_len, record[0], record[1]);
+    size_t width = look_at >> 8 & 0xFF;
+    size_t offset = look_at >> 16;
+    if ((look_at & 0xFF) != 0) {
+        return false;
+    }
+    wanted[2] = (uint8_t)width;
+    wanted[3] = kind_at(places, record[0], record[1]);
+    memcpy(wanted + 8, places->store + offset, width);
+    memcpy(wanted + 16, new_store + offset, width);
+    memcpy(copy + offset, record + 16, width);
+    return memcmp(record, wanted, 24) == 0
+           && memcmp(record + 8, record + 16, 8) != 0;
+}
+
+/* A list rises, and put on the old store it gives the new one at every place
+   under a record. */
+static bool list_fits(const Places *places, const uint8_t *new_store,
+                      const uint8_t *list, size_t count)
+{
+    uint8_t copy[64] = {0};
+    bool fits = true;
+    for (size_t i = 0; i < places->store_len; i++) {
+        copy[i] = places->store[i];
+    }
+    for (size_t i = 0; i < count; i++) {
+        const uint8_t *record = list + i * 24;
+        fits = fits && put_listed(places, new_store, record, copy)
+               && (i == 0 || memcmp(record - 24, record, 2) < 0);
+    }
+    for (size_t i = 0; fits && i < places->map_len; i += 8) {
+        size_t offset = places->map[i + 6] * 256u + places->map[i + 7];
+        fits = memcmp(copy + offset, new_store + offset, places->map[i + 2])
+               == 0;
+    }
+    return fits;
+}
+
+/* The same two stores with any room, of exactly its length: 15 where the list
+   doesn't fit, else the same list, and the rest stays. */
+static bool room_fits(const Places *places, const uint8_t *new_store,
+                      const uint8_t *list, uint32_t count)
+{
+    size_t room = any_number() % (count * 24 + 25);
+    uint8_t wanted[14 * 24];
+    bool enough = room >= count * 24;
+    memset(wanted, BEFORE, sizeof wanted);
+    uint8_t *output = exact_copy(wanted, room);
+    uint32_t answer = second_compare(
+        places->map, places->map_len, places->store, places->store_len,
+        new_store, places->store_len, output, room);
+    if (enough) {
+        memcpy(wanted, list, count * 24);
+    }
+    bool fits = answer == (enough ? count << 8 : ROOM_TOO_SMALL)
+                && (room == 0 || memcmp(output, wanted, room) == 0);
+    free(output);
+    return fits;
+}
+
+/* The store against itself with a few bytes changed, or with another
+   length. */
+static bool compare_anything(const Places *places)
+{
+    uint8_t list[13 * 24]; /* as many as the longest map has */
+    uint8_t *new_store = exact_copy(places->store, places->store_len);
+    size_t new_len = places->store_len;
+    for (uint32_t i = any_number() % 4; i > 0 && new_len > 0; i--) {
+        new_store[any_number() % new_len] = (uint8_t)any_number();
+    }
+    if (any_number() % 8 == 0 && new_len > 0) {
+        new_len--;
+    }
+    uint32_t number = second_check(places->map, places->map_len, places->store,
+                                   places->store_len, new_len);
+    if (number == 0) {
+        number = second_check(places->map, places->map_len, new_store, new_len,
+                              places->store_len);
+    }
+    uint32_t answer = second_compare(
+        places->map, places->map_len, places->store, places->store_len,
+        new_store, new_len, list, sizeof list);
+    bool fits = number != 0 ? answer == number
+                            : (answer & 0xFF) == 0
+                                  && list_fits(places, new_store, list,
+                                               answer >> 8)
+                                  && room_fits(places, new_store, list,
+                                               answer >> 8);
+    free(new_store);
+    return fits;
+}
+
 static bool run_any_list(void)
 {
     Places places = {0};
@@ -1521,6 +2123,7 @@ static bool run_any_list(void)
     for (unsigned i = 0; i < 12; i++) {
         holds = step_anything(&places) && find_anything(&places) && holds;
     }
+    holds = compare_anything(&places) && holds;
     free(places.map);
     free(places.store);
     free(places.image);
@@ -1536,7 +2139,8 @@ static void any_input(void)
         }
     }
     expect(unlike == 0,
-           "any input: refusals leave all, states stay sound, finds fit");
+           "any input: refusals leave all, states stay sound, finds and lists "
+           "fit");
 }
 
 int main(void)
@@ -1546,7 +2150,11 @@ int main(void)
         writer_ranges, composer_ranges, as_shipped, check_fields, check_places,
         check_lengths, check_bank_rules, check_order, look_calls,
         find_in_sheet, find_beside_banks, find_among_64, find_every_place,
-        find_bounds, find_refusals, start_calls, power_on_calls,
+        find_bounds, find_refusals, compare_sheet, compare_wide,
+        compare_one_byte, compare_under_no_record, compare_falling_places,
+        compare_room, compare_64, compare_map_refusals,
+        compare_length_refusals, compare_store_refusals, compare_order,
+        compare_one_buffer, compare_empty_map, start_calls, power_on_calls,
         idle_state_rules, waiting_state_rules, staged_state_rules,
         latched_state_rules, order_of_step, packed_states,
         pairs_from_the_left, frames_between_halves, what_keeps_write_enable,

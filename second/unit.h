@@ -22,7 +22,8 @@ enum {
     BANK_RULE = 11,         /* a bank rule of 0x00, 0x02 or bank 0 broken */
     STATE_RULE = 12,        /* a rule of a state broken */
     TRACE_RECORD = 13,      /* trace record unfinished or of unknown kind */
-    NO_VALUE = 14           /* no value begins there */
+    NO_VALUE = 14,          /* no value begins there */
+    ROOM_TOO_SMALL = 15     /* output room too small */
 };
 
 enum {
@@ -30,6 +31,7 @@ enum {
     STORE_LIMIT = 4096, /* store and reset image: 0 to 4,096 bytes */
     VALUE_LIMIT = 8,    /* width 1..8 */
     STATE_BYTES = 96,   /* a state as bytes */
+    LISTED_BYTES = 24,  /* a value in the compare call's list */
     NO_ADDRESS = 255    /* short address 0..63 or 255 */
 };
 
@@ -105,6 +107,20 @@ uint32_t second_look(const uint8_t *map, size_t map_len, const uint8_t *store,
    its number alone, its count 0. */
 uint64_t second_find(const uint8_t *map, size_t map_len, uint32_t bank,
                      uint32_t location);
+
+/* The compare call: number | count << 8. One map, two stores, and in the
+   output a list of the values that differ, count records of 24 bytes each:
+   bank, first location, width, kind, four zeros, old bytes, new bytes (each 8,
+   zero filled at the end); the first store is the old one. Each differing
+   value once, in map order, no equal one. Bytes past the list stay.
+   It tests 7 to 11 for the first store, then for the second, each with the
+   other in the image's place, then 15: fewer than 24 bytes of room for each
+   differing value. A refusal is its number alone, its count 0, and leaves the
+   output untouched. Both stores may be one buffer. */
+uint32_t second_compare(const uint8_t *map, size_t map_len,
+                        const uint8_t *old_store, size_t old_len,
+                        const uint8_t *new_store, size_t new_len,
+                        uint8_t *output, size_t output_len);
 
 /* Start, a later power-on, a frame step:
    number | answered << 8 | answer << 16. */

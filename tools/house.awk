@@ -6,7 +6,7 @@ BEGIN {
     floor("ground", "general facts", "laws")
     floor("wire", "what 24 bits say", "frames words composing")
     floor("map", "map, store and reset image", "records banks looks")
-    floor("without a unit", "tools over bytes, map and store; no state", "entries")
+    floor("without a unit", "tools over bytes, map and store; no state", "compare entries")
     floor("unit", "who a frame is for, the state, and what a frame does", "memory hearing rooms numbers unit")
     floor("above the unit", "many frames in a row", "history tracing")
     floor("faces", "bytes, words and calls for others", "packing faces text places telling showing mirtofalko")

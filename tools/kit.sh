@@ -1,5 +1,5 @@
 # What every script here needs of the machine: the kit, packages, a folder that does not stay, and the way to prove and run
-# a program.
+# a program. A script without the kit, or without that folder, ends with status 1, or with what it has set `failure` to.
 
 say() { printf '%s\n' "$*" >&2; }
 
@@ -8,7 +8,7 @@ has_kit() { command -v rt >/dev/null 2>&1; }
 need_kit() {
     has_kit && return 0
     say "mirto: the Rattle kit is not on this machine: there is no command 'rt' on PATH"
-    exit 1
+    exit "${failure:-1}"
 }
 
 # need COMMAND PACKAGE: installs the package by its name where the command is missing; shows what was printed if it fails.
@@ -30,7 +30,7 @@ make_room() {
     trap 'end_below; exit 129' HUP
     trap 'end_below; exit 130' INT
     trap 'end_below; exit 143' TERM
-    room=$(mktemp -d) || exit 1
+    room=$(mktemp -d) || exit "${failure:-1}"
 }
 
 # below: every process below this script, one to a line, but for those of this function itself.
@@ -68,12 +68,12 @@ end_below() {
 living() { grep -qs '^State:[[:space:]]*[^ZX[:space:]]' /dev/null $(printf '/proc/%s/status ' "$@"); }
 
 # attended COMMAND..: runs it with this standard input, and waits so that an interrupt is heard at once, and not only when
-# the command has ended.
+# the command has ended. It takes descriptor 9, so that the command still has those below, which an operand may name.
 attended() {
-    { true 3<&0; } 2>/dev/null || exec </dev/null
-    exec 3<&0
-    "$@" <&3 3<&- &
-    exec 3<&-
+    { true 9<&0; } 2>/dev/null || exec </dev/null
+    exec 9<&0
+    "$@" <&9 9<&- &
+    exec 9<&-
     wait $!
 }
 

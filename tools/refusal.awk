@@ -1,14 +1,19 @@
 # The place of a refusal 6 to 11, as a sentence; status 1 where there is one. Records are counted from 1, as a person counts
-# them. On standard input each file: a line with its name and size, then its first bytes as numbers. The map is called unit.map,
-# or what the variable `map` says.
-BEGIN { if (map == "") map = "unit.map" }
+# them. On standard input each file: a line with its name and size, then its first bytes as numbers; of an image, only where it
+# is another store, to be tested as the first is. A word behind the size says that the file has more than is allowed, and it is
+# not known how many. The files are called unit.map, unit.sto and unit.rst, or what the variables `map`, `sto` and `rst` say.
+BEGIN {
+    if (map == "") map = "unit.map"
+    if (sto == "") sto = "unit.sto"
+    if (rst == "") rst = "unit.rst"
+}
 function end_with(sentence, place) {
     print number ": " sentence (place == "" ? "" : ", " place)
     exit 1
 }
 function record(i) { return "record " (i + 1) " of " map " (bytes " (8 * i) " to " (8 * i + 7) ")" }
 
-$1 ~ /^[a-z]/ { name = $1; size[name] = $2; next }
+$1 ~ /^[a-z]/ { name = $1; size[name] = $2; more[name] = $3 != ""; next }
 { for (i = 1; i <= NF; i++) byte[name, count[name]++] = $i }
 
 END {
@@ -40,6 +45,7 @@ function address(    a) {
 }
 
 function length_of_map() {
+    if (more["map"]) end_with(map " has more than 512 bytes")
     if (size["map"] > 512) end_with(map " has " size["map"] " bytes, more than 512")
     if (size["map"] % 8 != 0) end_with(map " has " size["map"] " bytes, not a multiple of 8")
 }
@@ -65,10 +71,12 @@ function order(    i) {
     }
 }
 
+function long(name) { return more[name] ? "more than 4096" : size[name] }
+
 function places(    i, j) {
-    if (size["sto"] != size["rst"])
-        end_with("unit.sto has " size["sto"] " bytes, and unit.rst has " size["rst"])
-    if (size["sto"] > 4096) end_with("unit.sto has " size["sto"] " bytes, more than 4096")
+    if (size["sto"] != size["rst"]) end_with(sto " has " long("sto") " bytes, and " rst " has " long("rst"))
+    if (more["sto"]) end_with(sto " has more than 4096 bytes")
+    if (size["sto"] > 4096) end_with(sto " has " size["sto"] " bytes, more than 4096")
     for (i = 0; i < n; i++)
         if (offset[i] + width[i] > size["sto"])
             end_with("the value's bytes end at " (offset[i] + width[i] - 1) ", outside the store of " size["sto"] " bytes",
@@ -79,7 +87,7 @@ function places(    i, j) {
                 end_with("two values share a byte of the store", record(i) " and " record(j))
 }
 
-function banks(    i, j, head, lock, b) {
+function banks(    i, j, head, lock) {
     for (i = 0; i < n; i++) {
         head = -1; lock = -1
         for (j = 0; j < n; j++) {
@@ -92,14 +100,19 @@ function banks(    i, j, head, lock, b) {
         if (bank[i] > 0 && lock < 0)
             end_with("bank " bank[i] " has no lock byte (width 1, kind 2, not lockable) at location 2")
     }
+    stored("sto", sto)
+    if (count["rst"] > 0) stored("rst", rst)
+}
+
+function stored(name, called,    i, j, head, b) {
     for (i = 0; i < n; i++) {
         for (j = 0; j < n; j++) if (bank[j] == bank[i] && from[j] == 0) head = j
-        b = byte["sto", offset[head]]
+        b = byte[name, offset[head]]
         if (b < 3 || b > 254)
             end_with("the stored byte of bank " bank[i] " at location 0 is " b ", not 3 to 254",
-                "byte " offset[head] " of unit.sto")
+                "byte " offset[head] " of " called)
         if (end[i] > b)
             end_with("the stored byte of bank " bank[i] " at location 0 is " b ", below its location " end[i],
-                "byte " offset[head] " of unit.sto")
+                "byte " offset[head] " of " called)
     }
 }

@@ -18,7 +18,7 @@
 
 /* ---- counting ---- */
 
-enum Call { CHECK, LOOK, FIND, READ, WRITE, EVENT_COMPOSER, POWER_COMPOSER, START, STEP, POWER_ON, RUN, CALLS };
+enum Call { CHECK, LOOK, FIND, COMPARE, READ, WRITE, EVENT_COMPOSER, POWER_COMPOSER, START, STEP, POWER_ON, RUN, CALLS };
 
 static const struct {
     const char *name;
@@ -28,6 +28,7 @@ static const struct {
     [CHECK] = {"mf_check", 0x0F81, false},
     [LOOK] = {"mf_look", 0x4F81, false},
     [FIND] = {"mf_find", 0x03C1, false},
+    [COMPARE] = {"mf_compare", 0x8F81, false},
     [READ] = {"mf_read", 0x003F, false},
     [WRITE] = {"mf_write", 0x0041, false},
     [EVENT_COMPOSER] = {"mf_compose_event", 0x0041, false},
@@ -68,6 +69,8 @@ enum Seen {
     START_NOT_CUT, LOOK_NOT_CUT, FIND_BANK_NOT_CUT, FIND_LOCATION_NOT_CUT, FIND_MAP_FIRST,
     FOUND_FIRST, FOUND_INSIDE, FOUND_ABSENT, FOUND_HOLE, HOLE_BEFORE_ALL, FOUND_PAST, PAST_BELOW_A_BANK,
     FOUND_BY_MAP_ALONE, EXAMINED_NONE, EXAMINED_ONE, EXAMINED_7, EVERY_PLACE,
+    ALIKE, ALL_64, ROOM_EXACT, ROOM_SHORT, PAST_STAYS, ONE_BUFFER, UNDER_NO_RECORD, LOCK_LISTED, READ_ONLY_LISTED,
+    OLD_HEAD_REFUSED, NEW_HEAD_REFUSED, NO_OUTPUT,
     SHIPPED_WITH_ADDRESS, SHIPPED_WITHOUT_ADDRESS,
     SEEN
 };
@@ -114,6 +117,18 @@ static const char *const seen_names[SEEN] = {
     [EXAMINED_ONE] = "finds that examine one record",
     [EXAMINED_7] = "finds that examine 7 records",
     [EVERY_PLACE] = "finds at every bank and location of some maps",
+    [ALIKE] = "comparisons that list no value",
+    [ALL_64] = "comparisons that list 64 values",
+    [ROOM_EXACT] = "comparisons with room of exactly the list",
+    [ROOM_SHORT] = "comparisons with room one byte short, refused by 15",
+    [PAST_STAYS] = "comparisons with bytes past the list",
+    [ONE_BUFFER] = "comparisons of one buffer with itself",
+    [UNDER_NO_RECORD] = "comparisons of stores that differ only in bytes under no record",
+    [LOCK_LISTED] = "comparisons that list a lock byte",
+    [READ_ONLY_LISTED] = "comparisons that list a value that is not writable",
+    [OLD_HEAD_REFUSED] = "comparisons with a byte at 0x00 damaged in the old store, refused by 11",
+    [NEW_HEAD_REFUSED] = "comparisons with a byte at 0x00 damaged in the new store, refused by 11",
+    [NO_OUTPUT] = "comparisons of alike stores without any output",
     [SHIPPED_WITH_ADDRESS] = "events composed as shipped, with a short address",
     [SHIPPED_WITHOUT_ADDRESS] = "events composed as shipped, without a short address",
 };
@@ -302,6 +317,102 @@ static uint32_t find_call(Lent *l, Kept *kept) {
     return mf_number(ours);
 }
 
+/* ---- two stores, compared ---- */
+
+enum { LIST = 64 * MF_DIFFERENCE_BYTES, LIST_ROOM = LIST + 40, PAINT = 0xA5 };
+
+static bool is_head(const uint8_t *r) { return r[1] == 0 && r[2] == 1 && r[3] == 0; }
+
+/* Each byte of the store now and then, or each; the bytes at 0x00 only to 254, which every bank takes. */
+static void change(Lent *l, uint8_t *store, bool all) {
+    for (size_t i = 0; i < l->store_length; i++)
+        if (all || once_in(9)) store[i] = (uint8_t)(store[i] + 1 + below(255));
+    for (size_t i = 0; i < records(l); i++)
+        if (is_head(record(l, i)) && place_of(record(l, i)) < l->store_length) store[place_of(record(l, i))] = 254;
+}
+
+/* The places under no record, all of them. */
+static void change_unmapped(Lent *l, uint8_t *store) {
+    static bool mapped[ROOM];
+    memset(mapped, 0, sizeof mapped);
+    for (size_t i = 0; i < records(l); i++)
+        for (size_t k = 0; k < record(l, i)[2]; k++)
+            if (place_of(record(l, i)) + k < ROOM) mapped[place_of(record(l, i)) + k] = true;
+    for (size_t i = 0; i < l->store_length; i++)
+        if (!mapped[i]) store[i] = (uint8_t)(store[i] + 1);
+}
+
+/* The byte at 0x00 of some bank, below what every bank takes. False where this map has none. */
+static bool spoil_head(Lent *l, uint8_t *store) {
+    for (size_t i = 0; i < records(l); i++)
+        if (is_head(record(l, i)) && place_of(record(l, i)) < l->store_length && !once_in(3))
+            return store[place_of(record(l, i))] = (uint8_t)(once_in(2) ? 255 : below(3)), true;
+    return false;
+}
+
+static uint32_t our_compare(const Lent *l, Kept *kept, const uint8_t *new_store, size_t new_length, uint8_t *out, size_t room) {
+    const mf_unit unit = unit_of(l, kept);
+    if (once_in(2)) return mf_unit_compare(&unit, new_length > 0 ? new_store : NULL, new_length, room > 0 ? out : NULL, room);
+    return mf_compare(l->map, l->map_length, kept->store, l->store_length, new_store, new_length, out, room);
+}
+
+/* By the list, and by the stores for what it does not say. */
+static void see_compare(Lent *l, const uint8_t *old, const uint8_t *new, uint32_t answer, const uint8_t *list, size_t room) {
+    uint32_t count = mf_differing(answer);
+    bool lock = false, read_only = false;
+    if (mf_number(answer) != MF_OK) return;
+    for (const uint8_t *d = list; d < list + count * MF_DIFFERENCE_BYTES; d += MF_DIFFERENCE_BYTES)
+        lock |= d[0] > 0 && d[1] == 2, read_only |= d[3] != 2 && d[3] != 4;
+    see(ALIKE, count == 0), see(ALL_64, count == 64), see(ONE_BUFFER, old == new);
+    see(ROOM_EXACT, count > 0 && room == count * MF_DIFFERENCE_BYTES), see(PAST_STAYS, room > count * MF_DIFFERENCE_BYTES);
+    see(UNDER_NO_RECORD, count == 0 && memcmp(old, new, l->store_length) != 0);
+    see(LOCK_LISTED, lock), see(READ_ONLY_LISTED, read_only), see(NO_OUTPUT, room == 0);
+}
+
+/* Of these two stores, in a room about as long as the list. It answers the number. */
+static uint32_t compare_stores(Lent *l, Kept *kept, const uint8_t *new_store, size_t new_length) {
+    static uint8_t mine[LIST_ROOM], other[LIST_ROOM], untouched[LIST_ROOM];
+    memset(mine, PAINT, sizeof mine), memset(other, PAINT, sizeof other), memset(untouched, PAINT, sizeof untouched);
+    uint32_t whole = second_compare(l->map, l->map_length, kept->store, l->store_length, new_store, new_length, other, LIST);
+    size_t list = (whole >> 8) * MF_DIFFERENCE_BYTES, room = list;
+    if (once_in(4)) room = list > 0 ? list - 1 : 0;
+    else if (once_in(3)) room = list + below(40);
+    else if (once_in(6)) room = below(LIST);
+    memset(other, PAINT, sizeof other);
+    uint32_t theirs = second_compare(l->map, l->map_length, kept->store, l->store_length, new_store, new_length, other, room);
+    uint32_t ours = our_compare(l, kept, new_store, new_length, mine, room);
+    same(COMPARE, ours, theirs, ours);
+    expect_call(COMPARE, "another output", memcmp(mine, other, sizeof mine) == 0);
+    if (mf_number(ours) != MF_OK) {
+        expect_call(COMPARE, "refused, and counted", ours < 256);
+        expect_call(COMPARE, "refused, and the output changed", memcmp(mine, untouched, sizeof mine) == 0);
+    }
+    see(ROOM_SHORT, ours == MF_BAD_ROOM && room + 1 == list);
+    see_compare(l, kept->store, new_store, ours, mine, room);
+    return mf_number(ours);
+}
+
+/* Two stores: one buffer, or the unit's and another: the same bytes, others under no record, some others or all; now and then a
+ * byte at 0x00 is damaged in one of them, or the second is a byte longer or shorter. */
+static void compare_call(Lent *l, const Kept *kept) {
+    static uint8_t new_store[ROOM];
+    Kept old = *kept;
+    size_t length = l->store_length;
+    if (once_in(12)) {
+        compare_stores(l, &old, old.store, length);
+        return;
+    }
+    memcpy(new_store, old.store, sizeof new_store);
+    if (once_in(8)) change_unmapped(l, new_store);
+    else if (!once_in(6)) change(l, new_store, once_in(3));
+    bool new_spoiled = once_in(10) && spoil_head(l, new_store);
+    bool old_spoiled = !new_spoiled && once_in(10) && spoil_head(l, old.store);
+    if (once_in(30)) length = length > 0 && once_in(2) ? length - 1 : length + 1;
+    uint32_t number = compare_stores(l, &old, new_store, length);
+    see(NEW_HEAD_REFUSED, new_spoiled && number == MF_BAD_BANK);
+    see(OLD_HEAD_REFUSED, old_spoiled && number == MF_BAD_BANK);
+}
+
 /* ---- a run of records, against the second program's calls one after the other ---- */
 
 enum { RECORDS = 8, OUTPUT = 4 * RECORDS + 4 };
@@ -394,6 +505,7 @@ static void try_damaged(const Lent *lent, const Kept *kept, uint32_t clock, cons
     uint32_t checked = check_call(&other, &copy);
     look_call(&other, &copy);
     uint32_t found = find_call(&other, &copy);
+    if (once_in(4)) compare_call(&other, &copy);
     see(FOUND_BY_MAP_ALONE, (checked == MF_BAD_PLACES || checked == MF_BAD_BANK) && found == MF_OK);
     if (!done) return;
     damaged[which]++;
@@ -421,6 +533,7 @@ static void session(uint32_t steps) {
         if (once_in(50)) power_on_call(&lent, &kept);
         look_call(&lent, &kept);
         find_call(&lent, &kept);
+        compare_call(&lent, &kept);
         if (once_in(25)) clock = make_records(&plan, &lent, &kept, clock, bytes), run_call(&lent, &kept, bytes);
         make_records(&aside, &lent, &kept, clock, bytes);
         try_damaged(&lent, &kept, clock, bytes);

@@ -13,7 +13,7 @@
 
 enum { STACK = 1 << 14, PAINT = 0xA5, UNITS = 400, FRAMES = 60, RESET_BANK = 0xFFFE11, ADDRESS = 5, GROUPS = 2 };
 
-static uint8_t stack[STACK], records_in[64], records_out[32];
+static uint8_t stack[STACK], records_in[64], records_out[32], others[ROOM], list[64 * MF_DIFFERENCE_BYTES];
 static ucontext_t here, there;
 static void (*job)(void);
 
@@ -58,6 +58,10 @@ static void do_look(void)
 }
 
 static void do_find(void) { mf_find(lent.map, lent.map_length, frame >> 8 & 0xFF, frame & 0xFF); }
+static void do_compare(void)
+{
+    mf_compare(lent.map, lent.map_length, kept.store, lent.store_length, others, lent.store_length, list, sizeof list);
+}
 static void do_read(void) { word = mf_read(frame); }
 static void do_write(void) { mf_write(word); }
 static void do_compose_event(void)
@@ -74,8 +78,8 @@ static struct {
     {"mf_check", do_check, 0},           {"mf_start", do_start, 0},
     {"mf_frame", do_frame, 0},           {"mf_power_on", do_power_on, 0},
     {"mf_run", do_run, 0},               {"mf_look", do_look, 0},
-    {"mf_find", do_find, 0},             {"mf_read", do_read, 0},
-    {"mf_write", do_write, 0},
+    {"mf_find", do_find, 0},             {"mf_compare", do_compare, 0},
+    {"mf_read", do_read, 0},             {"mf_write", do_write, 0},
     {"mf_compose_event", do_compose_event, 0}, {"mf_compose_power", do_compose_power, 0},
 };
 
@@ -102,9 +106,20 @@ static size_t depth(void (*what)(void))
     return sizeof stack - left;
 }
 
+/* Another store of this map: every byte is another but those at 0x00. */
+static void make_others(void)
+{
+    for (size_t i = 0; i < sizeof others; i++)
+        others[i] = (uint8_t)~kept.store[i];
+    for (size_t i = 0; i < records(&lent); i++)
+        if (record(&lent, i)[1] == 0)
+            others[place_of(record(&lent, i))] = kept.store[place_of(record(&lent, i))];
+}
+
 /* Each call on a copy, at this frame. */
 static void try_all(void)
 {
+    make_others();
     for (size_t i = 0; i < CALLS; i++) {
         tried = kept;
         size_t deep = depth(calls[i].job);

@@ -28,6 +28,11 @@ use Rattle.looks.proofs.Cases.{look-cases}
 use Rattle.finds.proofs.Finds.{find-says, find-refuses, find-numbers, find-stands, find-shows, find-alone, find-settled}
 use Rattle.finds.proofs.Finds.{find-most, find-word-settled}
 use Rattle.finds.proofs.Cases.{find-cases}
+use Rattle.compare.proofs.Numbered.{compare-numbers, compare-stands, second-gives-11, compare-refuses, compare-most}
+use Rattle.compare.proofs.Numbered.{compare-shows, compare-alone, compare-settled, compare-word-settled}
+use Rattle.compare.proofs.Shown.{differing-exactly, values-listed, list-rises, output-shows, past-stays}
+use Rattle.compare.proofs.Brought.{new-from-old, old-from-new}
+use Rattle.compare.proofs.Cases.{compare-cases}
 use Rattle.entries.proofs.Cases.{cases as entries-cases}
 use Rattle.entries.proofs.Moved.{rest-kept, rest-settled}
 use Rattle.entries.proofs.Codes.{one-entry, broken-is-13}
@@ -82,8 +87,8 @@ use Rattle.faces.proofs.Cases.{cases as faces-cases}
 use Rattle.lifted.proofs.Demand.{demand-in-c, read-only-stay-in-c, accepts-as-unit}
 use Rattle.lifted.proofs.Following.{follows-unit}
 use Rattle.lifted.proofs.Each.{run-each, records-fit}
-use Rattle.claims.specs.Claims.{Frames, MapStoreImage, WhyMissing, Examined, StateClock, CommandsObeyed, CompleteWriting}
-use Rattle.claims.specs.Claims.{RefusalNumbers, TraceProgram, BenchSheet, ErrorsSeen, PlaceForms}
+use Rattle.claims.specs.Claims.{Frames, MapStoreImage, WhyMissing, Examined, TwoImages, StateClock, CommandsObeyed}
+use Rattle.claims.specs.Claims.{CompleteWriting, RefusalNumbers, TraceProgram, BenchSheet, ErrorsSeen, PlaceForms}
 use Rattle.claims.specs.Claims.{Judging, CLibrary, Claims}
 
 frames : Frames
@@ -139,6 +144,25 @@ examined = record {
   list-by-these-alone = visited-tells;
   answer-by-these-alone = answer-tells;
   count-boundaries = count-cases;
+}
+
+two-images : TwoImages
+two-images = record {
+  compare-numbers = compare-numbers;
+  compare-stands = compare-stands;
+  second-gives-11 = second-gives-11;
+  values-listed = values-listed;
+  positions-listed = differing-exactly;
+  in-map-order = list-rises;
+  records-show = output-shows;
+  past-stays = past-stays;
+  refusal-leaves-the-output = compare-refuses;
+  at-most-64 = compare-most;
+  new-from-old = new-from-old;
+  old-from-new = old-from-new;
+  comparisons-come-back = compare-shows;
+  refused-comparison-is-its-number = compare-alone;
+  compare-boundaries = compare-cases;
 }
 
 state-clock : StateClock
@@ -272,6 +296,8 @@ judging = record {
   look-settled = look-settled;
   find-settled = find-settled;
   find-word-settled = find-word-settled;
+  compare-settled = compare-settled;
+  compare-word-settled = compare-word-settled;
   numbers-settled = numbers-settled;
   calls-settled = calls-settled;
   entry-settled = entry-settled;
@@ -313,6 +339,7 @@ claims = record {
   map-store-image = map-store-image;
   why-missing = why-missing;
   examined = examined;
+  two-images = two-images;
   state-clock = state-clock;
   commands-obeyed = commands-obeyed;
   complete-writing = complete-writing;

@@ -28,6 +28,10 @@ use Rattle.looks.specs.Cases.{LookCases}
 use Rattle.finds.specs.Promises.{FindSays, FindRefuses, FindNumbers, FindStands, FindShows, FindAlone, FindSettled}
 use Rattle.finds.specs.Promises.{FindMost, FindWordSettled}
 use Rattle.finds.specs.Cases.{FindCases}
+use Rattle.compare.specs.Promises.{CompareNumbers, CompareStands, SecondGives11, DifferingExactly, ValuesListed}
+use Rattle.compare.specs.Promises.{ListRises, OutputShows, PastStays, CompareRefuses, CompareMost, NewFromOld, OldFromNew}
+use Rattle.compare.specs.Promises.{CompareShows, CompareAlone, CompareSettled, CompareWordSettled}
+use Rattle.compare.specs.Cases.{CompareCases}
 use Rattle.entries.specs.Cases.{Cases as EntriesCases}
 use Rattle.entries.specs.Promises.{RestKept, EntrySettled, RestSettled, FourBytesSettled}
 use Rattle.entries.specs.Codes.{OneEntry, BrokenIs13}
@@ -162,6 +166,42 @@ pub record Examined : Type 0 where
   pub answer-by-these-alone : AnswerTells
   -- of 64 records 7, and other counts, in one table
   pub count-boundaries : CountCases
+
+-- ---- Compare two images (paper 02, Item 1)
+
+pub record TwoImages : Type 0 where
+  -- "Both stores must pass numbers 7 to 11, the first store tested first, each with the other in the image's place. Output room
+  -- too small for the whole list is number 15": exactly if
+  pub compare-numbers : CompareNumbers
+  -- and 0 exactly if none of them: room of exactly the list is enough
+  pub compare-stands : CompareStands
+  -- after the first store has passed, the second can only give 11
+  pub second-gives-11 : SecondGives11
+  -- "a list of the values that differ": a value is listed exactly if it is in the map and its bytes differ
+  pub values-listed : ValuesListed
+  -- and so of the positions in the map
+  pub positions-listed : DifferingExactly
+  -- "Each differing value once, in map order": they rise strictly
+  pub in-map-order : ListRises
+  -- "One record of 24 bytes each, no header: bank, first location, width, kind, four zeros, old bytes, new bytes (each 8, zero
+  -- filled at the end)"
+  pub records-show : OutputShows
+  -- "Bytes past the list stay"
+  pub past-stays : PastStays
+  -- a refusal "leaves the output untouched", 15 too, and has no count
+  pub refusal-leaves-the-output : CompareRefuses
+  -- whatever is handed in, the count is at most 64
+  pub at-most-64 : CompareMost
+  -- what the list is for: its new bytes, put onto the old store, give every value of the new one
+  pub new-from-old : NewFromOld
+  -- and its old bytes, put onto the new store, every value of the old one
+  pub old-from-new : OldFromNew
+  -- as one number: each part stands in its bits
+  pub comparisons-come-back : CompareShows
+  -- and a refusal is its number alone
+  pub refused-comparison-is-its-number : CompareAlone
+  -- each boundary of a comparison, in one table
+  pub compare-boundaries : CompareCases
 
 -- ---- State and clock
 
@@ -398,6 +438,10 @@ pub record Judging : Type 0 where
   pub find-settled : FindSettled
   -- of its one number
   pub find-word-settled : FindWordSettled
+  -- of a comparison: number, count and output
+  pub compare-settled : CompareSettled
+  -- of its one number, and the output
+  pub compare-word-settled : CompareWordSettled
   -- of the numbers of start, power-on and frame step
   pub numbers-settled : NumbersSettled
   -- of start, power-on and frame step: answer, state and store
@@ -418,7 +462,7 @@ pub record Judging : Type 0 where
   pub files-settled : FilesSettled
   -- of a state as 96 bytes
   pub packing-settled : Settled
-  -- of the eleven calls of the C library
+  -- of the twelve calls of the C library
   pub faces-settled : FacesSettled
   -- "Facts over widths 1 to 8 are shown once, over the width": n writes leave the whole value
   pub whole-value : WholeValue
@@ -468,6 +512,7 @@ pub record Claims : Type 1 where
   pub map-store-image : MapStoreImage
   pub why-missing : WhyMissing
   pub examined : Examined
+  pub two-images : TwoImages
   pub state-clock : StateClock
   pub commands-obeyed : CommandsObeyed
   pub complete-writing : CompleteWriting

@@ -25,6 +25,8 @@ use Rattle.looks.specs.Look.{lookNumber}
 use Rattle.looks.proofs.Looks.{look-number-is}
 use Rattle.finds.specs.Find.{findTests, findNumber, findWord}
 use Rattle.finds.proofs.Finds.{find-shows, find-alone}
+use Rattle.compare.specs.Compare.{compareTests, compareNumber, compareOf, compareWord}
+use Rattle.compare.proofs.Numbered.{compare-shows, compare-alone}
 use Rattle.numbers.specs.Numbers.{startNumber}
 use Rattle.unit.proofs.Numbers.{calls-reply}
 use Rattle.faces.specs.Answers.{writtenOf, source}
@@ -63,6 +65,15 @@ found-low map bank location (suc n) e =
     ap (λ (k : ℕ). bits k 7 0) (find-alone map bank location (omega arith))
     ∙ itself _ (small _ (findTests map bank location) refl refl)
 
+-- and of a comparison
+compared-low : (map old new : List ℕ) (room n : ℕ) → compareNumber map old new room ≡ n
+    → bits (compareWord (compareOf map old new room)) 7 0 ≡ compareNumber map old new room
+unfolding compareNumber
+compared-low map old new room zero e = compare-shows map old new room e .number ∙ sym e
+compared-low map old new room (suc n) e =
+    ap (λ (k : ℕ). bits k 7 0) (compare-alone map old new room (omega arith))
+    ∙ itself _ (small _ (compareTests map old new room) refl refl)
+
 pub low-byte : LowByte
 unfolding startFace startNumber checkNumber lookNumber
 low-byte =
@@ -72,6 +83,7 @@ low-byte =
           look-low _ (small _ _ (look-number-is map store bank location) refl)
           ∙ look-number-is map store bank location;
       find = λ map bank location. found-low map bank location _ refl;
+      compare = λ map old new room. compared-low map old new room _ refl;
       start = λ map store image address groups.
           faced (startFace map store image address groups) _ (calls-reply map store image .start _) refl;
       frame = λ map store image bytes frame clock.

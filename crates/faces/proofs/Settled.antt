@@ -4,6 +4,7 @@ use mathlib.Core.Path.{_≡_, sym, _∙_}
 use mathlib.Core.List.{List}
 use Prim.Native.Nat.{ℕ}
 use Rattle.laws.proofs.Settled.{settles}
+use Rattle.compare.proofs.Numbered.{compare-word-settled}
 use Rattle.faces.specs.Face.{Faced, Faces, RunFaced, RunFaces}
 use Rattle.faces.specs.Promises.{SettlesFaced, SettlesRun, Settled}
 
@@ -29,6 +30,7 @@ settled =
       run = λ map store image bytes records before. ran before _;
       look = λ map store bank location. settles _;
       find = λ map bank location. settles _;
+      compare = compare-word-settled;
       read = λ frame. settles _;
       write = λ word. settles _;
       compose-event = λ sort number primary short groups information scheme. settles _;

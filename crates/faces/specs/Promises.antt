@@ -19,6 +19,8 @@ use Rattle.banks.specs.Rules.{checkTests, checkNumber}
 use Rattle.looks.specs.Look.{lookNumber}
 use Rattle.looks.specs.declared.looked.Looked.{Looked}
 use Rattle.finds.specs.Find.{findNumber, findWord}
+use Rattle.compare.specs.Compare.{compareNumber, compareOf, compareWord}
+use Rattle.compare.specs.Promises.{CompareWordPromise, SettlesCompared}
 use Rattle.hearing.specs.Pairs.{heardAt}
 use Rattle.rooms.specs.Rules.{stateHolds}
 use Rattle.rooms.specs.declared.reply.Reply.{Reply}
@@ -73,6 +75,8 @@ pub record LowByte : Type 0 where
   pub look : (map store : List ℕ) (bank location : ℕ) →
       bits (lookAnswer map store bank location) 7 0 ≡ lookNumber map store bank location
   pub find : (map : List ℕ) (bank location : ℕ) → bits (findWord map bank location) 7 0 ≡ findNumber map bank location
+  pub compare : (map old new : List ℕ) (room : ℕ) →
+      bits (compareWord (compareOf map old new room)) 7 0 ≡ compareNumber map old new room
   pub start : (map store image : List ℕ) (address groups : ℕ) → LowReply (startFace map store image address groups)
   pub frame : (map store image bytes : List ℕ) (frame clock : ℕ) →
       LowReply (frameFace map store image bytes frame clock)
@@ -160,6 +164,10 @@ LookFacePromise map store bank location r = r ≡ lookAnswer map store bank loca
 abbrev pub FindFacePromise : List ℕ → ℕ → ℕ → ℕ → Type 0
 FindFacePromise map bank location r = r ≡ findWord map bank location
 
+-- mf_compare; the output was `before`
+abbrev pub CompareFacePromise : List ℕ → List ℕ → List ℕ → List ℕ → ℕ → List ℕ → Type 0
+CompareFacePromise map old new before r output = CompareWordPromise map old new before r output
+
 -- mf_start; state and left are the state's bytes and the store afterwards
 abbrev pub StartFacePromise : List ℕ → List ℕ → List ℕ → ℕ → ℕ → ℕ → List ℕ → List ℕ → Type 0
 StartFacePromise map store image address groups r state left =
@@ -218,6 +226,7 @@ pub record Settled : Type 0 where
       SettlesRun (RunFacePromise map store image bytes records before)
   pub look : (map store : List ℕ) (bank location : ℕ) → Settles (LookFacePromise map store bank location)
   pub find : (map : List ℕ) (bank location : ℕ) → Settles (FindFacePromise map bank location)
+  pub compare : (map old new before : List ℕ) → SettlesCompared (CompareFacePromise map old new before)
   pub read : (frame : ℕ) → Settles (ReadFacePromise frame)
   pub write : (word : ℕ) → Settles (WriteFacePromise word)
   pub compose-event : (sort number primary short groups information scheme : ℕ) →

@@ -8,6 +8,7 @@ pub use frame_calls::compose_power_face;
 pub use frame_calls::read_face;
 pub use frame_calls::write_face;
 pub use unit_calls::check_face;
+pub use unit_calls::compare_face;
 pub use unit_calls::find_face;
 pub use unit_calls::frame_face;
 pub use unit_calls::look_face;

@@ -5,6 +5,7 @@ ghost use lib.ListN.{length};
 ghost use Rattle.rooms.specs.Rules.{addressHolds};
 ghost use Rattle.faces.specs.Face.{thenNumber};
 ghost use Rattle.faces.specs.Promises.{CheckFacePromise, LookFacePromise, FindFacePromise, StartFacePromise};
+ghost use Rattle.faces.specs.Promises.{CompareFacePromise};
 ghost use Rattle.faces.specs.Promises.{FrameFacePromise, PowerOnFacePromise, RunFacePromise};
 use crate::answers::look_word;
 use crate::answers::no_look_word;
@@ -53,6 +54,14 @@ pub fn find_face(map: &[u8], bank: u32, location: u32) -> u64
     ensures { λ r. ⌜ FindFacePromise (now (map .entry)) bank location r ⌝ }
 {
     finds::find_word(map, bank, location)
+}
+
+// The list of the values that differ between two stores, over the output.
+pub fn compare_face(map: &[u8], old: &[u8], new: &[u8], output: &mut [u8]) -> u32
+    ensures { λ r. ⌜ CompareFacePromise (now (map .entry)) (now (old .entry)) (now (new .entry)) (now (output .entry))
+        r (now (output .exit)) ⌝ }
+{
+    compare::compare_word(map, old, new, output)
 }
 
 // A state is made, and the store as a power-on leaves it. The address is wider than a byte, so that it is not cut to

@@ -8,6 +8,7 @@ pub use frame_calls::mf_compose_power;
 pub use frame_calls::mf_read;
 pub use frame_calls::mf_write;
 pub use unit_calls::mf_check;
+pub use unit_calls::mf_compare;
 pub use unit_calls::mf_find;
 pub use unit_calls::mf_frame;
 pub use unit_calls::mf_look;

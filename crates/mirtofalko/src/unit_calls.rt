@@ -1,6 +1,6 @@
 // The calls of the unit: on a map, a store, a reset image and a state of 96 bytes.
 ghost use Rattle.faces.specs.Promises.{CheckFacePromise, LookFacePromise, FindFacePromise, StartFacePromise};
-ghost use Rattle.faces.specs.Promises.{FrameFacePromise, PowerOnFacePromise, RunFacePromise};
+ghost use Rattle.faces.specs.Promises.{CompareFacePromise, FrameFacePromise, PowerOnFacePromise, RunFacePromise};
 
 // The number of map, store and reset image: 7 to 11, or 0.
 #[no_mangle]
@@ -24,6 +24,15 @@ pub extern "C" fn mf_find(map: &[u8], bank: u32, location: u32) -> u64
     ensures { λ r. ⌜ FindFacePromise (now (map .entry)) bank location r ⌝ }
 {
     faces::find_face(map, bank, location)
+}
+
+// The list of the values that differ between two stores, over the output.
+#[no_mangle]
+pub extern "C" fn mf_compare(map: &[u8], old: &[u8], new: &[u8], output: &mut [u8]) -> u32
+    ensures { λ r. ⌜ CompareFacePromise (now (map .entry)) (now (old .entry)) (now (new .entry)) (now (output .entry))
+        r (now (output .exit)) ⌝ }
+{
+    faces::compare_face(map, old, new, output)
 }
 
 // A state is made, and the store as a power-on leaves it.

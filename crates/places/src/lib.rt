@@ -4,3 +4,5 @@ mod examined; // and for its count
 
 pub use examined::say_examined;
 pub use placed::say_found;
+pub use placed::say_location;
+pub use placed::say_width;

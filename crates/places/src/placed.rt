@@ -6,13 +6,13 @@ use records::Why;
 use text::Line;
 
 // A location as a person writes it.
-fn say_location(line: Line, words: &[u8], location: u8) -> Line
+pub fn say_location(line: Line, words: &[u8], location: u8) -> Line
     ensures { λ r. ⌜ line .length ≤ r .length ⌝ }
 {
     line.add(words).add(b"0x").hex(location)
 }
 
-fn say_width(line: Line, width: u8) -> Line
+pub fn say_width(line: Line, width: u8) -> Line
     ensures { λ r. ⌜ line .length ≤ r .length ⌝ }
 {
     let said = line.decimal(width as u32);

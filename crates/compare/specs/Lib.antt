@@ -1,0 +1,4 @@
+pub mod Compare
+pub mod Carry
+pub mod Promises
+pub mod Cases
