@@ -124,30 +124,27 @@ module _ (map old new before : List ℕ) (e : compareNumber map old new (length 
   shown : (i : ℕ) → List·Memᴰ i list → Difference (difference map old new i) (recordAt map i) old new
   shown i m = shows old new (recordAt map i) (all-in-both map old new (both map old new before e) i m)
 
-  to-new : BroughtTo map old new (carriedAll map newBytes (differences (outputOf map old new before) (length list)) old)
-  to-new =
-      let two = accepted map old new (length before) e in
-      let x = brings map new (two .1 .in-place) newBytes (difference map old new) list
+  -- the store t, by the bytes that the differences have at a place; a value that is not listed is that of t already
+  to : (place : ℕ) (t store : List ℕ) → placed map (length t) ≡ true → length store ≡ length t
+      → ((i : ℕ) → List·Memᴰ i list → part place (recordAt map i .width) (difference map old new i) ≡ valueOf (recordAt map i) t)
+      → ((r : Record) → Member r map → List·Memᴰ r (each (recordAt map) list) ⊎ (valueOf r store ≡ valueOf r t))
+      → BroughtTo map store t (carriedAll map place (differences (outputOf map old new before) (length list)) store)
+  to place t store p n v same =
+      let x = brings map t p place (difference map old new) list
       (λ i m. let d = shown i m in
-      record { member = of-map map old new i m; bank = d .bank; first = d .first; width = d .width; bytes = d .new-bytes })
-      old (two .1 .as-long) in
-      rw ds (record { values = λ r m. x .values r m (listed-or-same map old new r m); unmapped = x .unmapped; as-long = x .as-long })
-
-  to-old : BroughtTo map new old (carriedAll map oldBytes (differences (outputOf map old new before) (length list)) new)
-  to-old =
-      let two = accepted map old new (length before) e in
-      let x = brings map old (two .0 .in-place) oldBytes (difference map old new) list
-      (λ i m. let d = shown i m in
-      record { member = of-map map old new i m; bank = d .bank; first = d .first; width = d .width; bytes = d .old-bytes })
-      new (two .0 .as-long) in
-      rw ds (record {
-        values = λ r m. x .values r m (⊎-elim (λ i. inl i) (λ q. inr (sym q)) (listed-or-same map old new r m));
-        unmapped = x .unmapped;
-        as-long = x .as-long;
-      })
+      record { member = of-map map old new i m; bank = d .bank; first = d .first; width = d .width; bytes = v i m })
+      store n in
+      rw ds (record { values = λ r m. x .values r m (same r m); unmapped = x .unmapped; as-long = x .as-long })
 
 pub new-from-old : NewFromOld
-new-from-old = to-new
+new-from-old map old new before e =
+    let new-stands = accepted map old new (length before) e .1 in
+    to map old new before e newBytes new old (new-stands .in-place) (new-stands .as-long)
+    (λ i m. shown map old new before e i m .new-bytes) (listed-or-same map old new)
 
 pub old-from-new : OldFromNew
-old-from-new = to-old
+old-from-new map old new before e =
+    let old-stands = accepted map old new (length before) e .0 in
+    to map old new before e oldBytes old new (old-stands .in-place) (old-stands .as-long)
+    (λ i m. shown map old new before e i m .old-bytes)
+    (λ r m. ⊎-elim (λ i. inl i) (λ q. inr (sym q)) (listed-or-same map old new r m))

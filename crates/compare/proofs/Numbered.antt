@@ -26,7 +26,7 @@ use Rattle.compare.specs.Compare.{differing, bothTests, hasRoom, roomTes
 use Rattle.compare.specs.Compare.{listOf, listedOver, outputOf, compareWord, BothPlaced}
 use Rattle.compare.specs.Promises.{CompareNumbers, CompareStands, SecondGives11, CompareRefuses, CompareMost}
 use Rattle.compare.specs.Promises.{CompareShows, CompareAlone, ComparePromise}
-use Rattle.compare.specs.Promises.{CompareSettled, CompareWordSettled}
+use Rattle.compare.specs.Promises.{Compares, SettlesCompared, CompareSettled, CompareWordSettled}
 use Rattle.compare.specs.declared.compared.Compared.{Compared}
 use Rattle.compare.proofs.Listed.{length-differing}
 
@@ -67,6 +67,13 @@ module _ (map old new : List ℕ) where
   at-most-64 p =
       let size = size-most (length map) (ordered-size map (placed-ordered map (length old) (p .0))) in
       let few = length-differing map old new in
+      omega arith
+
+  -- so the count is small, where the code has seen that both pass
+  pub few : (n count : ℕ) → n ≡ firstFailing (bothTests map old new) → n ≡ 0 → count ≡ length (differing map old new)
+      → count ≤ 64
+  few n count e z q =
+      let most = at-most-64 (zero-both-placed (sym e ∙ z)) in
       omega arith
 
   module _ (room : ℕ) where
@@ -189,10 +196,12 @@ compare-alone map old new room h =
     let some = ne-eqb (compareNumber map old new room) 0 (λ z. absurd (omega arith)) in
     rw some (omega arith)
 
+settles : {A : Type 0} (answer : A) (written : List ℕ)
+    → SettlesCompared (λ (r : A) (output : List ℕ). Compares r output answer written)
+settles answer written r s output other p q = (p .answers ∙ sym (q .answers), p .leaves ∙ sym (q .leaves))
+
 pub compare-settled : CompareSettled
-compare-settled map old new before r s output other p q =
-    (p .answers ∙ sym (q .answers), p .leaves ∙ sym (q .leaves))
+compare-settled map old new before = settles _ _
 
 pub compare-word-settled : CompareWordSettled
-compare-word-settled map old new before r s output other p q =
-    (p .answers ∙ sym (q .answers), p .leaves ∙ sym (q .leaves))
+compare-word-settled map old new before = settles _ _

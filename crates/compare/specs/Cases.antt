@@ -109,10 +109,10 @@ refusedCases =
     -- 11: the byte at 0x00 of the first store, of the second, of both; before 15
     ∷ refuses benchMap (storeWith 5 5) benchStore 24 11
     ∷ refuses benchMap benchStore (storeWith 5 5) 24 11
+    ∷ refuses (with []) (storeWith 3 1) (storeWith 2 1) 24 11
     ∷ refuses benchMap (storeWith 255 5) (storeWith 255 5) 24 11
     ∷ refuses benchMap benchStore (storeWith 255 5) 0 11
-    -- 11: the map itself
-    ∷ refuses (with []) (storeWith 3 1) (storeWith 2 1) 24 11
+    -- 11: the map itself, which has no lock byte
     ∷ refuses (headRow 2) (storeWith 3 0) (storeWith 3 0) 24 11
     ∷ []
 

@@ -3,7 +3,7 @@
 use mathlib.Core.Path.{sym, _∙_}
 use native.Mathlib.Omega.{arith}
 use borrow.Author.Needs.{needs}
-use Rattle.compare.proofs.Numbered.{zero-both-placed, at-most-64, number-refused, number-15, number-0, refuses, lists}
+use Rattle.compare.proofs.Numbered.{zero-both-placed, few, number-refused, number-15, number-0, refuses, lists}
 use Rattle.compare.proofs.compared.compare.Statement.{statement}
 use Rattle.compare.proofs.compared.compare.Tie as tie
 
@@ -24,10 +24,8 @@ mul-if2 : tie.Need-mul-if2
 mul-if2 c =
     let tested = c .before in
     let a = tested .before .before .before .before .before .before .args in
-    let none = sym (tested .before .both-number .ensures) ∙ tested .if1 .left in
-    let few = at-most-64 (a .map .now) (a .old .now) (a .new .now)
-    (zero-both-placed (a .map .now) (a .old .now) (a .new .now) none) in
-    let count = c .count-differing .ensures in
+    let most = few (a .map .now) (a .old .now) (a .new .now) _ _ (tested .before .both-number .ensures) (tested .if1 .left)
+    (c .count-differing .ensures) in
     omega arith
 
 returns-2 : tie.Need-returns-2
@@ -56,10 +54,8 @@ cast-t13 c =
     let counted = c .before .before .before .before .before in
     let tested = counted .before in
     let a = tested .before .before .before .before .before .before .args in
-    let none = sym (tested .before .both-number .ensures) ∙ tested .if1 .left in
-    let few = at-most-64 (a .map .now) (a .old .now) (a .new .now)
-    (zero-both-placed (a .map .now) (a .old .now) (a .new .now) none) in
-    let count = counted .count-differing .ensures in
+    let most = few (a .map .now) (a .old .now) (a .new .now) _ _ (tested .before .both-number .ensures) (tested .if1 .left)
+    (counted .count-differing .ensures) in
     omega arith
 
 returns-3 : tie.Need-returns-3
