@@ -2,9 +2,9 @@
  *
  *   State of a unit   96 bytes
  *   Stack             at most 2,048 bytes for any call. Measured on x86-64: mf_check 128, mf_start 336, mf_frame 912,
- *                     mf_power_on 880, mf_run 1536, mf_look 160, mf_find 80, mf_compare 224, mf_read 288, mf_write 40,
- *                     mf_compose_event 56, mf_compose_power 24 bytes
- *   Code              about 22,400 bytes with its constants on x86-64
+ *                     mf_power_on 880, mf_run 1536, mf_look 160, mf_find 80, mf_compare 224, mf_session 288, mf_read 288,
+ *                     mf_write 40, mf_compose_event 56, mf_compose_power 24 bytes
+ *   Code              about 23,600 bytes with its constants on x86-64
  *   Needs             memcpy, and nothing else: no heap, no file, no initialisation
  *   Re-entrant        every call: it keeps nothing of its own, and it returns. One unit is stepped by one thread at a
  *                     time; different units, and calls without a unit, need no lock between them
@@ -19,11 +19,12 @@
  * `mf_unit` (below) holds them side by side, so that a call names the unit only.
  *
  * Every call is proved: for all inputs its answer, the state and the store are what the definitions say. The
- * definitions stand in crates/faces/specs, those of mf_find in crates/finds/specs and of mf_compare in crates/compare/specs.
+ * definitions stand in crates/faces/specs, those of mf_find in crates/finds/specs, of mf_compare in crates/compare/specs and
+ * of mf_session in crates/session/specs.
  *
  * What no call can check, and you must see to:
  *   - Each pointer is good for as many bytes as the length beside it says, and is not null, also for the length 0.
- *   - What a call changes (state, output, and the store where it is not const) overlaps nothing else that is lent to
+ *   - What a call changes (state, output, frames, and the store where it is not const) overlaps nothing else that is lent to
  *     that call. Two inputs that are only read may be one buffer.
  *   - A state comes from an accepted mf_start. Zeros are a state too, that of a unit with address 0: a refused start
  *     leaves them, so do not step it; and a state that was never started answers as address 0.
@@ -38,7 +39,7 @@
 #include <stdint.h>
 
 /* The interface counts up where a call, an answer or the state's bytes change; then you compile anew. */
-#define MF_INTERFACE 6
+#define MF_INTERFACE 7
 #define MF_VERSION "1.0"
 #define MF_VERSION_MAJOR 1
 #define MF_VERSION_MINOR 0
@@ -48,7 +49,8 @@ extern "C" {
 #endif
 
 /* The numbers. 0 is no refusal. A refused call changes neither state nor store nor mf_compare's output; only a refused start
- * writes a state, all zeros. Where several rules are broken the first in the call's order gives its number. mf_text says each. */
+ * writes a state, all zeros, and a refused session its 13 places, all zeros. Where several rules are broken the first in the
+ * call's order gives its number. mf_text says each. */
 enum {
     MF_OK = 0,
     MF_BAD_FRAME = 1,          /* frame 16,777,216 or more */
@@ -56,7 +58,7 @@ enum {
     MF_BAD_INSTANCE_BYTE = 3,  /* reserved instance byte */
     MF_BAD_EVENT = 4,          /* reserved event */
     MF_BAD_BLANK_FIELD = 5,    /* power event with a non-zero blank field */
-    MF_BAD_FIELD = 6,          /* field out of range: writer, composer, start, find */
+    MF_BAD_FIELD = 6,          /* field out of range: writer, composer, start, find, session */
     MF_BAD_MAP_LENGTH = 7,     /* map not a multiple of 8 bytes, or over 512 */
     MF_BAD_RECORD = 8,         /* a record's own fields break the rules */
     MF_BAD_RECORD_ORDER = 9,   /* records out of order or overlapping */
@@ -65,7 +67,8 @@ enum {
     MF_BAD_STATE = 12,         /* a rule of a state broken; also 96 bytes that are no state */
     MF_BAD_TRACE_RECORD = 13,  /* trace record unfinished or of unknown kind */
     MF_BAD_LOCATION = 14,      /* no value begins there */
-    MF_BAD_ROOM = 15           /* output room too small for the whole list */
+    MF_BAD_ROOM = 15,          /* output room too small for the whole list */
+    MF_BAD_KIND = 16           /* the value is not writable */
 };
 
 enum {
@@ -74,6 +77,7 @@ enum {
     MF_OUTPUT_BYTES = 4,  /* what mf_run writes for it: number, answered 0/1, answer or 0, zero */
     MF_DIFFERENCE_BYTES = 24, /* what mf_compare writes for a value: bank, first location, width, kind, four zeros, its old
                                * bytes and its new bytes, each 8, zero filled at the end */
+    MF_SESSION_FRAMES = 13, /* the places that mf_session writes */
     MF_NO_ADDRESS = 255,  /* the address of a unit that has none */
     MF_NO_GROUP = 255     /* the primary group of an instance that has none */
 };
@@ -139,6 +143,7 @@ static inline const char *mf_text(uint32_t number) {
     case MF_BAD_TRACE_RECORD: return "trace record unfinished or of unknown kind";
     case MF_BAD_LOCATION: return "no value begins there";
     case MF_BAD_ROOM: return "output room too small for the whole list";
+    case MF_BAD_KIND: return "the value is not writable";
     default: return "no such number";
     }
 }
@@ -168,6 +173,9 @@ static inline uint32_t mf_count(uint64_t find) { return (uint32_t)(find >> 32 & 
 
 /* Of mf_compare: number | count << 8. How many values differ: at most 64, and 0 where the stores are alike. */
 static inline uint32_t mf_differing(uint32_t compared) { return compared >> 8; }
+
+/* Of mf_session: number | count << 8. How many frames there are: 4 to 13, and 0 of a refusal. */
+static inline uint32_t mf_frames(uint32_t session) { return session >> 8; }
 
 /* Of mf_write, mf_compose_event, mf_compose_power: number | frame << 8. */
 static inline uint32_t mf_frame_of(uint32_t written) { return written >> 8; }
@@ -254,6 +262,21 @@ uint64_t mf_find(const uint8_t *map, size_t map_length, uint32_t bank, uint32_t 
 uint32_t mf_compare(const uint8_t *map, size_t map_length, const uint8_t *old_store, size_t old_length,
                     const uint8_t *new_store, size_t new_length, uint8_t *output, size_t output_length);
 
+/* The frames that write a value, in the unit of a short address: send the first mf_frames of `frames`, one behind the other. The
+ * value is the one that begins at the bank and location, and `bytes` are all its bytes, most significant first. All 13 places
+ * of `frames` are written, with 0 where there is no frame.
+ * They are DTR1, which is the bank; ENABLE WRITE MEMORY twice; DIRECT WRITE MEMORY of each byte; and, for a lockable value, of
+ * the lock byte 0x55 before them and 0xFF after. Heard by a unit of this map that has the address, without another frame or a
+ * power-on between, the second ENABLE at most 100 ms behind the first, they leave the value as given, the lock byte of a
+ * lockable value 0xFF, and every other byte of the store as it was, whatever the unit heard before; and it answers each write
+ * with its byte. Write-enable stays open behind them, until a command shuts it. And the writes carry no address: another
+ * unit whose write-enable is open takes them too.
+ * Only the map is looked at: one that breaks 10 or 11 has sessions too.
+ * 7, 8, 9, then 14, which every bank and location over 255 gives too, then 16, then 6: not as many bytes as the value has, or an
+ * address over 63. */
+uint32_t mf_session(const uint8_t *map, size_t map_length, uint32_t address, uint32_t bank, uint32_t location,
+                    const uint8_t *bytes, size_t bytes_length, uint32_t frames[MF_SESSION_FRAMES]);
+
 /* ---- the unit as one thing ----
  *
  * Begin with zeros (a static one has them) and set the parts by their names. A part that is null has to have the length
@@ -318,6 +341,12 @@ static inline uint32_t mf_unit_compare(const mf_unit *unit, const uint8_t *new_s
                                        size_t output_length) {
     return mf_compare(mf_lent(unit->map), unit->map_length, mf_lent(unit->store), unit->store_length, mf_lent(new_store),
                       new_length, mf_lent_to_change(output), output_length);
+}
+
+/* Of the unit's map; the address is that of the unit to be written. */
+static inline uint32_t mf_unit_session(const mf_unit *unit, uint32_t address, uint32_t bank, uint32_t location,
+                                       const uint8_t *bytes, size_t bytes_length, uint32_t frames[MF_SESSION_FRAMES]) {
+    return mf_session(mf_lent(unit->map), unit->map_length, address, bank, location, mf_lent(bytes), bytes_length, frames);
 }
 
 /* The bytes that a look found, mf_width(look) of them. */

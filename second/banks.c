@@ -158,8 +158,7 @@ static bool records_rise(const Lent *lent)
     return true;
 }
 
-/* 7 to 9, each over everything: the map alone. */
-static uint32_t check_map(const Lent *lent)
+uint32_t check_map(const Lent *lent)
 {
     if (lent->map_len % RECORD_BYTES != 0 || lent->map_len > MAP_LIMIT) {
         return MAP_LENGTH;

@@ -40,6 +40,10 @@ typedef struct Value {
 size_t record_count(const Lent *lent);
 Value record_at(const Lent *lent, size_t index);
 
+/* The first of 7 to 9 that is given, or 0: the map alone, each over
+   everything. */
+uint32_t check_map(const Lent *lent);
+
 /* The value that begins at, or holds, a location; false where none does. */
 bool value_beginning(const Lent *lent, uint32_t bank, uint32_t location,
                      Value *value);

@@ -72,6 +72,24 @@ TraceRecord read_record(FILE *input)
     return record;
 }
 
+/* Four bytes, high first. */
+static void put_number(uint8_t *bytes, uint32_t number)
+{
+    bytes[0] = (uint8_t)(number >> 24);
+    bytes[1] = (uint8_t)(number >> 16 & 0xFF);
+    bytes[2] = (uint8_t)(number >> 8 & 0xFF);
+    bytes[3] = (uint8_t)(number & 0xFF);
+}
+
+/* A frame needs three bytes: the highest of its four is the kind 0. */
+void write_frame(FILE *output, uint32_t clock, uint32_t frame)
+{
+    uint8_t bytes[RECORD_LENGTH];
+    put_number(bytes, clock);
+    put_number(bytes + 4, frame);
+    (void)fwrite(bytes, 1, sizeof bytes, output);
+}
+
 uint32_t obey_record(Files *files, Unit *unit, const TraceRecord *record)
 {
     if (record->kind == BAD_RECORD) {

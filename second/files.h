@@ -49,6 +49,9 @@ typedef struct TraceRecord {
 
 TraceRecord read_record(FILE *input);
 
+/* Writes a frame's record; whether it was lost is seen at the file. */
+void write_frame(FILE *output, uint32_t clock, uint32_t frame);
+
 /* Hands one record to the unit: number | answered << 8 | answer << 16. */
 uint32_t obey_record(Files *files, Unit *unit, const TraceRecord *record);
 

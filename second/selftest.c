@@ -23,9 +23,9 @@ static void expect(bool holds, const char *what)
 typedef struct Bench {
     uint8_t map[MAP_LIMIT];
     size_t map_len;
-    uint8_t store[64];
+    uint8_t store[512];
     size_t store_len;
-    uint8_t image[64];
+    uint8_t image[512];
     Unit unit;
     uint32_t clock;
 } Bench;
@@ -1255,6 +1255,610 @@ static void compare_empty_map(void)
            "an empty map, no first store");
 }
 
+/* ---- the session call ---- */
+
+/* What a session is asked for. */
+typedef struct Ask {
+    uint32_t address;
+    uint32_t bank;
+    uint32_t location;
+    size_t bytes_len;
+    uint8_t bytes[9];
+} Ask;
+
+/* An answer with its 13 places, and one behind them that no call writes. */
+typedef struct Session {
+    uint32_t answer;
+    uint32_t places[14];
+} Session;
+
+enum { UNWRITTEN = 0x5A5A5A5A }; /* each place before a call */
+
+static Session unwritten_session(void)
+{
+    Session made = {0, {0}};
+    for (size_t i = 0; i < 14; i++) {
+        made.places[i] = UNWRITTEN;
+    }
+    return made;
+}
+
+/* No bytes have no pointer either. */
+static Session session(const uint8_t *map, size_t map_len, const Ask *ask)
+{
+    Session made = unwritten_session();
+    made.answer = second_session(map, map_len, ask->address, ask->bank,
+                                 ask->location,
+                                 ask->bytes_len == 0 ? NULL : ask->bytes,
+                                 ask->bytes_len, made.places);
+    return made;
+}
+
+/* So many frames, and zeros behind them up to the 13th place. */
+static bool places_are(const Session *made, const uint32_t *frames,
+                       uint32_t count)
+{
+    bool same = made->places[13] == UNWRITTEN;
+    for (uint32_t i = 0; i < 13; i++) {
+        same = same && made->places[i] == (i < count ? frames[i] : 0);
+    }
+    return same;
+}
+
+static bool session_is(const Session *made, const uint32_t *frames,
+                       uint32_t count)
+{
+    return made->answer == count << 8 && places_are(made, frames, count);
+}
+
+/* A refusal is its number alone, and all its places are 0. */
+static bool session_refused(const Session *made, uint32_t number)
+{
+    return made->answer == number && places_are(made, NULL, 0);
+}
+
+/* The record of the value that begins at a place; NULL where none does. */
+static const uint8_t *record_from(const uint8_t *map, size_t map_len,
+                                  uint32_t bank, uint32_t location)
+{
+    for (size_t i = 0; i + 8 <= map_len; i += 8) {
+        if (map[i] == bank && map[i + 1] == location) {
+            return map + i;
+        }
+    }
+    return NULL;
+}
+
+static bool record_writable(const uint8_t *record)
+{
+    return record[3] == 2 || record[3] == 4;
+}
+
+static size_t place_of(const uint8_t *record)
+{
+    return record[6] * 256u + record[7];
+}
+
+/* The frame that stands i-th in a session, by the record of its value. */
+static uint32_t session_frame(const uint8_t *record, const Ask *ask, uint32_t i)
+{
+    uint32_t lead = 3u + record[4]; /* frames before the bytes */
+    if (i == 0) {
+        return 0xC13100 + ask->bank;
+    }
+    if (i <= 2) {
+        return 0x01FE15 + ask->address * 0x20000;
+    }
+    if (i < lead) {
+        return 0xC50255;
+    }
+    if (i < lead + record[2]) {
+        return 0xC50000 + (ask->location + i - lead) * 0x100
+               + ask->bytes[i - lead];
+    }
+    return 0xC502FF;
+}
+
+static bool session_by_record(const Session *made, const uint8_t *record,
+                              const Ask *ask)
+{
+    uint32_t frames[13] = {0};
+    uint32_t count = 3u + record[2] + 2u * record[4];
+    for (uint32_t i = 0; i < count; i++) {
+        frames[i] = session_frame(record, ask, i);
+    }
+    return session_is(made, frames, count);
+}
+
+/* The store is the old one with the value's bytes and, for a lockable value,
+   lock byte 0xFF. */
+static bool stored_by_session(const Bench *before, const Bench *after,
+                              const uint8_t *record, const Ask *ask)
+{
+    uint8_t wanted[sizeof before->store];
+    memcpy(wanted, before->store, sizeof wanted);
+    memcpy(wanted + place_of(record), ask->bytes, record[2]);
+    if (record[4] == 1) {
+        wanted[place_of(record_from(before->map, before->map_len, record[0],
+                                    2))] = 0xFF;
+    }
+    return memcmp(after->store, wanted, sizeof wanted) == 0;
+}
+
+/* Write-enable is left open and nothing is waiting or staged; DTR0 is behind
+   the last write, and the latch is not touched. */
+static bool left_by_session(const Bench *before, const Bench *after,
+                            const uint8_t *record)
+{
+    Unit wanted = {0};
+    wanted.address = before->unit.address;
+    wanted.groups = before->unit.groups;
+    wanted.dtr0 = (uint8_t)(record[4] == 1 ? 3 : record[1] + record[2]);
+    wanted.dtr1 = record[0];
+    wanted.dtr2 = before->unit.dtr2;
+    wanted.write_enable = 1;
+    wanted.latched = before->unit.latched;
+    wanted.latched_bank = before->unit.latched_bank;
+    wanted.latched_first = before->unit.latched_first;
+    memcpy(wanted.latched_bytes, before->unit.latched_bytes,
+           sizeof wanted.latched_bytes);
+    return same_state(&after->unit, &wanted);
+}
+
+/* A session for the value of a record, run 1 ms apart from a clock on: each
+   step is accepted, and each write answers its own byte. */
+static bool session_holds(const Bench *before, const uint8_t *record,
+                          const uint8_t *bytes, uint32_t clock)
+{
+    Bench after = *before;
+    Ask ask = {before->unit.address, record[0], record[1], record[2], {0}};
+    memcpy(ask.bytes, bytes, ask.bytes_len);
+    Session made = session(before->map, before->map_len, &ask);
+    bool holds = session_by_record(&made, record, &ask);
+    for (uint32_t i = 0; holds && i < made.answer >> 8; i++) {
+        uint8_t byte = (uint8_t)(made.places[i] & 0xFF);
+        holds = step_at(&after, made.places[i], clock + i)
+                == (i < 3 ? 0 : answered(byte));
+    }
+    return holds && stored_by_session(before, &after, record, &ask)
+           && left_by_session(before, &after, record);
+}
+
+/* Frames 1 ms apart from clock 0; how many results differ. */
+static unsigned results_unlike(Bench *bench, const uint32_t *frames,
+                               const uint32_t *results, uint32_t count)
+{
+    unsigned unlike = 0;
+    for (uint32_t i = 0; i < count; i++) {
+        if (step_at(bench, frames[i], i) != results[i]) {
+            unlike++;
+        }
+    }
+    return unlike;
+}
+
+/* The bench sheet's value 300, run from its start. */
+static void session_of_sheet(void)
+{
+    static const uint32_t frames[9] = {0xC13102, 0x0BFE15, 0x0BFE15,
+                                       0xC50255, 0xC50300, 0xC50400,
+                                       0xC50501, 0xC5062C, 0xC502FF};
+    static const uint32_t results[9] = {
+        0,          0,          0,          0x00550100, 0x00000100,
+        0x00000100, 0x00010100, 0x002C0100, 0x00FF0100};
+    static const uint32_t nothing[9] = {0};
+    static const uint8_t whole[6] = {0x06, 0xFF, 0, 0, 1, 0x2C};
+    static const uint8_t part[6] = {0x06, 0x55, 0, 0, 0, 0x64};
+    Ask ask = {5, 2, 3, 4, {0, 0, 1, 0x2C}};
+    Bench bench = sheet_bench();
+    Session made = session(sheet_map, sizeof sheet_map, &ask);
+    expect(session_is(&made, frames, 9), "the bench sheet's value: 9 frames");
+    expect(results_unlike(&bench, made.places, results, 9) == 0,
+           "each write is answered by its own byte");
+    expect(stores(&bench, 0, 6, whole), "the value, and lock byte 0xFF");
+    bench = sheet_bench();
+    expect(results_unlike(&bench, made.places, results, 7) == 0
+               && stores(&bench, 0, 6, part),
+           "no byte is stored before the last");
+    bench = sheet_bench();
+    ask.address = 6;
+    made = session(sheet_map, sizeof sheet_map, &ask);
+    expect(made.answer == 0x900
+               && results_unlike(&bench, made.places, nothing, 9) == 0
+               && stores(&bench, 0, 6, sheet_store),
+           "a session for another address");
+}
+
+/* A session over the wide map, with its frames. */
+typedef struct Written {
+    Ask ask;
+    uint32_t count;
+    uint32_t frames[13];
+    const char *what;
+} Written;
+
+static void session_frames(void)
+{
+    static const Written sessions[] = {
+        {{5, 2, 0x02, 1, {0x55}}, 4,
+         {0xC13102, 0x0BFE15, 0x0BFE15, 0xC50255},
+         "the lock byte itself as the value, 0x55"},
+        {{5, 9, 0x02, 1, {0x00}}, 4,
+         {0xC13109, 0x0BFE15, 0x0BFE15, 0xC50200},
+         "the lock byte itself as the value, 0x00"},
+        {{5, 2, 0x07, 1, {0x77}}, 4,
+         {0xC13102, 0x0BFE15, 0x0BFE15, 0xC50777},
+         "a session of width 1, not lockable"},
+        {{5, 2, 0x08, 2, {0xFF, 0x55}}, 5,
+         {0xC13102, 0x0BFE15, 0x0BFE15, 0xC508FF, 0xC50955},
+         "a session for a RAM-RW value"},
+        {{0, 2, 0x0B, 3, {1, 2, 3}}, 6,
+         {0xC13102, 0x01FE15, 0x01FE15, 0xC50B01, 0xC50C02, 0xC50D03},
+         "a session for address 0"},
+        {{63, 2, 0x03, 4, {1, 2, 3, 4}}, 9,
+         {0xC13102, 0x7FFE15, 0x7FFE15, 0xC50255, 0xC50301, 0xC50402, 0xC50503,
+          0xC50604, 0xC502FF},
+         "a session for address 63"},
+        {{32, 9, 0x03, 8, {8, 7, 6, 5, 4, 3, 2, 1}}, 13,
+         {0xC13109, 0x41FE15, 0x41FE15, 0xC50255, 0xC50308, 0xC50407, 0xC50506,
+          0xC50605, 0xC50704, 0xC50803, 0xC50902, 0xC50A01, 0xC502FF},
+         "a session of width 8, lockable: all 13 places"},
+        {{5, 9, 0xFD, 2, {0xFD, 0xFE}}, 5,
+         {0xC13109, 0x0BFE15, 0x0BFE15, 0xC5FDFD, 0xC5FEFE},
+         "a session up to 0xFE"},
+    };
+    Bench bench = wide_bench();
+    for (size_t i = 0; i < sizeof sessions / sizeof sessions[0]; i++) {
+        Session made = session(bench.map, bench.map_len, &sessions[i].ask);
+        expect(session_is(&made, sessions[i].frames, sessions[i].count),
+               sessions[i].what);
+    }
+}
+
+/* The bench sheet with another width, kind and lockable byte of its value. */
+static Bench sheet_with_value(uint8_t width, uint8_t kind, uint8_t lockable)
+{
+    Bench bench = sheet_bench();
+    bench.map[18] = width;
+    bench.map[19] = kind;
+    bench.map[20] = lockable;
+    bench.store_len = 10;
+    bench.store[0] = 10;
+    (void)start_bench(&bench, 5, 0);
+    return bench;
+}
+
+static void session_widths(void)
+{
+    static const uint8_t bytes[8] = {0xA1, 0x55, 0xFF, 0x00,
+                                     0xA5, 0x02, 0xC5, 0xA8};
+    static const uint32_t narrow[6] = {0xC13102, 0x0BFE15, 0x0BFE15,
+                                       0xC50255, 0xC50355, 0xC502FF};
+    static const uint32_t wide[11] = {0xC13102, 0x0BFE15, 0x0BFE15, 0xC50308,
+                                      0xC50407, 0xC50506, 0xC50605, 0xC50704,
+                                      0xC50803, 0xC50902, 0xC50A01};
+    const Ask ask_narrow = {5, 2, 3, 1, {0x55}};
+    const Ask ask_wide = {5, 2, 3, 8, {8, 7, 6, 5, 4, 3, 2, 1}};
+    for (uint8_t i = 0; i < 32; i++) {
+        Bench bench =
+            sheet_with_value(i / 4 + 1, i / 2 % 2 == 0 ? 2 : 4, i % 2);
+        char what[60];
+        (void)snprintf(what, sizeof what,
+                       "a session of width %u, kind %u, lockable %u",
+                       bench.map[18], bench.map[19], bench.map[20]);
+        expect(session_holds(&bench, bench.map + 16, bytes, 0), what);
+    }
+    Bench bench = sheet_with_value(1, 4, 1);
+    Session made = session(bench.map, bench.map_len, &ask_narrow);
+    expect(session_is(&made, narrow, 6), "width 1, lockable: 6 frames");
+    bench = sheet_with_value(8, 4, 0);
+    made = session(bench.map, bench.map_len, &ask_wide);
+    expect(session_is(&made, wide, 11), "width 8, not lockable: 11 frames");
+}
+
+/* ---- its refusals ---- */
+
+static bool refuses_ask(const Bench *bench, Ask ask, uint32_t number)
+{
+    Session made = session(bench->map, bench->map_len, &ask);
+    return session_refused(&made, number);
+}
+
+/* What is asked of the wide map where its bytes don't matter. */
+static Ask ask_of(uint32_t address, uint32_t bank, uint32_t location,
+                  size_t bytes_len)
+{
+    Ask ask = {address, bank, location, bytes_len,
+               {1, 2, 3, 4, 5, 6, 7, 8, 9}};
+    return ask;
+}
+
+/* An ask and the number that it is refused with. */
+typedef struct Refused {
+    uint32_t address;
+    uint32_t bank;
+    uint32_t location;
+    size_t bytes_len;
+    uint32_t number;
+    const char *what;
+} Refused;
+
+/* 14, then 16, then 6, over a sound map. */
+static void session_refusals(void)
+{
+    static const Refused refused[] = {
+        {5, 2, 0x04, 4, NO_VALUE, "a session inside a value"},
+        {5, 2, 0x06, 1, NO_VALUE, "a session at a last location"},
+        {5, 2, 0x0A, 1, NO_VALUE, "a session at a hole"},
+        {5, 2, 0x01, 1, NO_VALUE, "a session just before the lock byte"},
+        {5, 2, 0xFF, 1, NO_VALUE, "a session at 0xFF"},
+        {5, 3, 0x03, 4, NO_VALUE, "a session in an absent bank"},
+        {5, 200, 0x02, 1, NO_VALUE, "a session in bank 200"},
+        {5, 255, 0x02, 1, NO_VALUE, "a session in bank 255"},
+        {5, 258, 0x03, 4, NO_VALUE, "a session in bank 258, not 2"},
+        {5, 2, 0x103, 4, NO_VALUE, "a session at 0x103, not 3"},
+        {5, 2, 256, 1, NO_VALUE, "a session at 256, not 0"},
+        {5, 0x10002, 0x03, 4, NO_VALUE, "a session in bank 0x10002"},
+        {5, 2, 0x1000003, 4, NO_VALUE, "a session at 0x1000003"},
+        {5, UINT32_MAX, UINT32_MAX, 4, NO_VALUE, "the largest place"},
+        {5, 2, 0x00, 1, NOT_WRITABLE, "a session for a ROM value"},
+        {5, 2, 0x10, 2, NOT_WRITABLE, "a session for a RAM-RO value"},
+        {5, 0, 0x02, 2, NOT_WRITABLE, "a session for an NVM-RO value"},
+        {64, 2, 0x03, 4, FIELD_OUT_OF_RANGE, "a session for address 64"},
+        {127, 2, 0x03, 4, FIELD_OUT_OF_RANGE, "a session for address 127"},
+        {254, 2, 0x03, 4, FIELD_OUT_OF_RANGE, "a session for address 254"},
+        {255, 2, 0x03, 4, FIELD_OUT_OF_RANGE, "a session for address 255"},
+        {0x105, 2, 0x03, 4, FIELD_OUT_OF_RANGE, "address 0x105, not 5"},
+        {0xFFFFFFFF, 2, 0x03, 4, FIELD_OUT_OF_RANGE, "the largest address"},
+        {5, 2, 0x03, 3, FIELD_OUT_OF_RANGE, "a byte too few"},
+        {5, 2, 0x03, 5, FIELD_OUT_OF_RANGE, "a byte too many"},
+        {5, 2, 0x03, 0, FIELD_OUT_OF_RANGE, "no bytes"},
+        {5, 2, 0x02, 0, FIELD_OUT_OF_RANGE, "no byte for the lock byte"},
+        {5, 2, 0x02, 2, FIELD_OUT_OF_RANGE, "two for the lock byte"},
+        {5, 9, 0x03, 7, FIELD_OUT_OF_RANGE, "7 bytes of 8"},
+        {5, 9, 0x03, 9, FIELD_OUT_OF_RANGE, "9 bytes of 8"},
+        {5, 2, 0x03, 260, FIELD_OUT_OF_RANGE, "260 bytes, not 4"},
+        {5, 2, 0x03, SIZE_MAX, FIELD_OUT_OF_RANGE, "the most bytes"},
+        {5, 2, 0x03, SIZE_MAX / 2 + 5, FIELD_OUT_OF_RANGE,
+         "a count is not cut"},
+        {64, 2, 0x03, 3, FIELD_OUT_OF_RANGE, "address 64 and a byte too few"},
+        {64, 2, 0x00, 1, NOT_WRITABLE, "16 before 6: address 64"},
+        {255, 2, 0x00, 1, NOT_WRITABLE, "16 before 6: address 255"},
+        {5, 2, 0x00, 0, NOT_WRITABLE, "16 before 6: no bytes"},
+        {5, 2, 0x10, 3, NOT_WRITABLE, "16 before 6: a byte too many"},
+        {5, 2, 0x11, 1, NO_VALUE, "14 before 16: inside a RAM-RO value"},
+        {5, 258, 0x00, 1, NO_VALUE, "14 before 16: bank 258, not 2"},
+        {5, 2, 0x110, 2, NO_VALUE, "14 before 16: location 0x110, not 0x10"},
+        {64, 2, 0x04, 4, NO_VALUE, "14 before 6: address 64"},
+        {5, 2, 0x04, 3, NO_VALUE, "14 before 6: a byte too few"},
+        {255, 258, 0x03, 0, NO_VALUE, "14 before 6: bank 258 and no bytes"},
+        {64, 0, 0x03, 1, NO_VALUE, "14 before 16 and 6"},
+    };
+    Bench bench = wide_bench();
+    for (size_t i = 0; i < sizeof refused / sizeof refused[0]; i++) {
+        expect(refuses_ask(&bench,
+                           ask_of(refused[i].address, refused[i].bank,
+                                  refused[i].location, refused[i].bytes_len),
+                           refused[i].number),
+               refused[i].what);
+    }
+}
+
+/* The lengths of a map; an empty one has no pointer either. */
+static void session_map_lengths(void)
+{
+    static const uint8_t zeros[520] = {0};
+    const Ask ask = ask_of(5, 0, 0, 1);
+    const Ask ask_outside = ask_of(64, 256, 256, 0);
+    Session made = session(NULL, 0, &ask);
+    expect(session_refused(&made, NO_VALUE), "an empty map has no value");
+    made = session(NULL, 0, &ask_outside);
+    expect(session_refused(&made, NO_VALUE), "an empty map and bank 256");
+    made = session(zeros, 7, &ask);
+    expect(session_refused(&made, MAP_LENGTH), "session: map of 7");
+    made = session(zeros, 513, &ask);
+    expect(session_refused(&made, MAP_LENGTH), "session: map of 513");
+    made = session(zeros, 520, &ask);
+    expect(session_refused(&made, MAP_LENGTH), "session: map of 520");
+    made = session(zeros, 512, &ask);
+    expect(session_refused(&made, RECORD_FIELDS), "session: map of 512");
+}
+
+/* The same number whatever else is at fault: nothing, 14, 16 or 6. */
+static bool refuses_first(const Bench *bench, uint32_t number)
+{
+    return refuses_ask(bench, ask_of(5, 2, 0x03, 4), number)
+           && refuses_ask(bench, ask_of(5, 2, 0x06, 4), number)
+           && refuses_ask(bench, ask_of(5, 258, 0x03, 4), number)
+           && refuses_ask(bench, ask_of(5, 0, 0x00, 1), number)
+           && refuses_ask(bench, ask_of(64, 2, 0x03, 4), number)
+           && refuses_ask(bench, ask_of(5, 2, 0x03, 0), number);
+}
+
+/* 7, 8 and 9 come first, each over everything: here the last two records, of
+   another bank, are at fault. */
+static void session_map_refusals(void)
+{
+    Bench bench = wide_bench();
+    bench.map[12 * 8 + 1] = 0x0A;
+    expect(refuses_first(&bench, RECORD_ORDER), "session: 9, overlap by one");
+    bench.map[12 * 8] = 8;
+    expect(refuses_first(&bench, RECORD_ORDER), "session: 9, bank falls");
+    bench.map[11 * 8 + 5] = 1;
+    expect(refuses_first(&bench, RECORD_FIELDS), "session: 8 before 9");
+    bench.map_len--;
+    expect(refuses_first(&bench, MAP_LENGTH), "session: 7 before 8");
+    bench = wide_bench();
+    bench.map[5 * 8 + 1] = 0x06;
+    expect(refuses_first(&bench, RECORD_ORDER), "9 at the value itself");
+    bench = wide_bench();
+    bench.map[4 * 8 + 3] = 3;
+    expect(refuses_first(&bench, RECORD_FIELDS), "8 at the value itself");
+    bench.map[4 * 8 + 4] = 0;
+    expect(refuses_ask(&bench, ask_of(5, 2, 0x03, 4), NOT_WRITABLE),
+           "made read-only, 16");
+}
+
+/* 10 and 11 are not tested: such a map still gets frames. */
+static void session_unsound(void)
+{
+    static const uint32_t lock_byte[6] = {0xC13102, 0x0BFE15, 0x0BFE15,
+                                          0xC50255, 0xC50201, 0xC502FF};
+    static const uint32_t bank_0[7] = {0xC13100, 0x0BFE15, 0x0BFE15, 0xC50255,
+                                       0xC50201, 0xC50302, 0xC502FF};
+    const Ask ask = ask_of(5, 2, 3, 4);
+    const Ask ask_lock = ask_of(5, 2, 2, 1);
+    const Ask ask_bank_0 = ask_of(5, 0, 2, 2);
+    Bench bench = wide_bench();
+    Session made;
+    bench.map[4 * 8 + 7] = 3;
+    expect(check(&bench) == STORE_PLACES, "a map that breaks 10, shared");
+    made = session(bench.map, bench.map_len, &ask);
+    expect(session_by_record(&made, bench.map + 32, &ask), "gets frames");
+    bench.map[4 * 8 + 6] = 0xFF;
+    expect(check(&bench) == STORE_PLACES, "a map that breaks 10, outside");
+    made = session(bench.map, bench.map_len, &ask);
+    expect(session_by_record(&made, bench.map + 32, &ask), "gets frames too");
+    made = session(sheet_map + 16, 8, &ask);
+    expect(session_by_record(&made, sheet_map + 16, &ask),
+           "no record at 0x00 or 0x02: the same frames");
+    bench = wide_bench();
+    bench.map[3 * 8 + 4] = 1;
+    expect(check(&bench) == BANK_RULE, "a map that breaks 11, lock byte");
+    made = session(bench.map, bench.map_len, &ask_lock);
+    expect(session_is(&made, lock_byte, 6),
+           "a lockable lock byte: the lockable byte alone decides");
+    bench = wide_bench();
+    bench.map[1 * 8 + 3] = 4;
+    bench.map[1 * 8 + 4] = 1;
+    expect(check(&bench) == BANK_RULE, "a map that breaks 11, bank 0");
+    made = session(bench.map, bench.map_len, &ask_bank_0);
+    expect(session_is(&made, bank_0, 7), "a lockable value in bank 0");
+}
+
+/* ---- sessions from reached states ---- */
+
+/* Every writable value of a bench, with bytes that all differ from the stored
+   ones, from so many clocks on. */
+static unsigned sessions_unlike(const Bench *bench, const uint32_t *clocks,
+                                size_t count)
+{
+    unsigned unlike = 0;
+    for (size_t i = 0; i < bench->map_len; i += 8) {
+        const uint8_t *record = bench->map + i;
+        uint8_t bytes[8];
+        for (size_t j = 0; j < record[2]; j++) {
+            bytes[j] = (uint8_t)~bench->store[place_of(record) + j];
+        }
+        for (size_t j = 0; record_writable(record) && j < count; j++) {
+            if (!session_holds(bench, record, bytes, clocks[j])) {
+                unlike++;
+            }
+        }
+    }
+    return unlike;
+}
+
+/* Frames from the start of the wide bench on, and what they reach. */
+typedef struct Reached {
+    uint32_t waiting_frame;
+    uint8_t write_enable;
+    uint8_t staged;
+    uint8_t latched;
+    uint8_t lock_byte; /* of bank 2 */
+    const char *what;
+    uint32_t frames[12];
+} Reached;
+
+static bool is_reached(const Bench *bench, const Reached *reached)
+{
+    return bench->unit.waiting == (reached->waiting_frame != 0)
+           && bench->unit.waiting_frame == reached->waiting_frame
+           && bench->unit.write_enable == reached->write_enable
+           && bench->unit.staged == reached->staged
+           && bench->unit.latched == reached->latched
+           && bench->store[4] == reached->lock_byte;
+}
+
+static const Reached reached_states[] = {
+    {0, 0, 0, 0, 0xFF, "a start", {0}},
+    {0x0BFE15, 0, 0, 0, 0xFF, "an ENABLE of that address waiting", {0x0BFE15}},
+    {0xFFFE15, 0, 0, 0, 0xFF, "an ENABLE by broadcast waiting", {0xFFFE15}},
+    {0x85FE15, 0, 0, 0, 0xFF, "an ENABLE by group waiting", {0x85FE15}},
+    {0x0BFE15, 0, 0, 0, 0x55, "an ENABLE waiting, the bank unlocked",
+     {0xC70202, 0xFFFE15, 0xFFFE15, 0xC12055, 0x0BFE15}},
+    {0x0BFE11, 0, 0, 0, 0x55, "a RESET waiting, the bank unlocked",
+     {0xC70202, 0xFFFE15, 0xFFFE15, 0xC12055, 0xC13000, 0x0BFE11}},
+    {0x0BFE15, 0, 0, 0, 0xFF, "a third ENABLE waiting",
+     {0x0BFE15, 0x0BFE15, 0x0BFE15}},
+    {0, 1, 0, 0, 0xFF, "write-enable open", {0x0BFE15, 0x0BFE15}},
+    {0, 1, 1, 0, 0xFF, "a byte of three staged",
+     {0xC7020B, 0x0BFE15, 0x0BFE15, 0xC12011}},
+    {0, 1, 3, 0, 0x55, "three bytes of four staged, the bank unlocked",
+     {0xC70202, 0x0BFE15, 0x0BFE15, 0xC12055, 0xC12001, 0xC12002, 0xC12003}},
+    {0, 1, 7, 0, 0xFF, "seven bytes of eight staged in the other bank",
+     {0xC70902, 0x0BFE15, 0x0BFE15, 0xC12055, 0xC12001, 0xC12002, 0xC12003,
+      0xC12004, 0xC12005, 0xC12006, 0xC12007}},
+    {0, 1, 0, 0, 0x55, "an unlocked bank, open",
+     {0xC70202, 0x0BFE15, 0x0BFE15, 0xC12055}},
+    {0, 0, 0, 0, 0x55, "an unlocked bank, closed",
+     {0xC70202, 0x0BFE15, 0x0BFE15, 0xC12055, 0x0BFE33}},
+    {0, 1, 0, 0, 0x54, "a lock byte 0x54",
+     {0xC70202, 0x0BFE15, 0x0BFE15, 0xC12054}},
+    {0, 0, 0, 1, 0xFF, "a latch held", {0xC70203, 0xFFFE3C}},
+    {0x0BFE15, 0, 0, 1, 0xFF, "a latch held and an ENABLE waiting",
+     {0xC70203, 0xFFFE3C, 0x0BFE15}},
+    {0, 1, 2, 1, 0x55, "a latch held and two bytes of three staged",
+     {0xC7020B, 0xFFFE3C, 0xC13002, 0x0BFE15, 0x0BFE15, 0xC12055, 0xC50B01,
+      0xC12002}},
+    {0, 1, 0, 0, 0xFF, "DTR1 at an unmapped bank, DTR0 0xFF",
+     {0xC705FF, 0x0BFE15, 0x0BFE15}},
+    {0, 1, 2, 0, 0x55, "a session cut inside its bytes",
+     {0xC13102, 0x0BFE15, 0x0BFE15, 0xC50255, 0xC50301, 0xC50402}},
+    {0, 1, 0, 0, 0x55, "a session cut before its last frame",
+     {0xC13102, 0x0BFE15, 0x0BFE15, 0xC50255, 0xC50301, 0xC50402, 0xC50503,
+      0xC50604}},
+};
+
+/* From each the same clocks: at and after its last frame, and so that the
+   clock runs over before each frame of a session and between any two. */
+static void session_states(void)
+{
+    for (size_t i = 0; i < sizeof reached_states / sizeof reached_states[0];
+         i++) {
+        const Reached *reached = &reached_states[i];
+        Bench bench = wide_bench();
+        char what[80];
+        for (size_t j = 0; j < 12 && reached->frames[j] != 0; j++) {
+            (void)step(&bench, reached->frames[j]);
+        }
+        uint32_t clocks[24] = {bench.clock,       bench.clock + 1,
+                               bench.clock + 2,   bench.clock + 50,
+                               bench.clock + 98,  bench.clock + 99,
+                               bench.clock + 100, bench.clock + 101};
+        for (uint32_t j = 0; j < 16; j++) {
+            clocks[8 + j] = 0u - j;
+        }
+        (void)snprintf(what, sizeof what, "reached: %s", reached->what);
+        expect(is_reached(&bench, reached), what);
+        (void)snprintf(what, sizeof what, "sessions from %s", reached->what);
+        expect(sessions_unlike(&bench, clocks, 24) == 0, what);
+    }
+}
+
+/* An ENABLE that waits while the clock runs over. */
+static void session_runs_over(void)
+{
+    unsigned unlike = 0;
+    for (uint32_t i = 0; i < 16; i++) {
+        Bench bench = wide_bench();
+        const uint32_t clocks[3] = {0u - i, 1u - i, 99u - i};
+        (void)step_at(&bench, 0x0BFE15, 0u - i);
+        unlike += sessions_unlike(&bench, clocks, 3);
+    }
+    expect(unlike == 0, "an ENABLE waiting where the clock runs over");
+}
+
 /* ---- state and clock ---- */
 
 static void start_calls(void)
@@ -1894,6 +2498,30 @@ static void trace_records(void)
     expect(record_of(frame, 0).kind == NO_RECORD, "the end of the input");
 }
 
+/* A frame's record written, then read. */
+static void written_records(void)
+{
+    static const uint8_t wanted[16] = {1,    2,    3,    4,    0,    0x0B,
+                                       0xFE, 0x15, 0xFF, 0xFE, 0xFD, 0xFC,
+                                       0,    0xC5, 0x02, 0xFF};
+    uint8_t bytes[17] = {0};
+    size_t count = 0;
+    FILE *file = tmpfile();
+    if (file != NULL) {
+        write_frame(file, 0x01020304, 0x0BFE15);
+        write_frame(file, 0xFFFEFDFC, 0xC502FF);
+        rewind(file);
+        count = fread(bytes, 1, sizeof bytes, file);
+        (void)fclose(file);
+    }
+    expect(count == 16 && memcmp(bytes, wanted, 16) == 0,
+           "clock (4, high first), kind 0, frame (3)");
+    TraceRecord record = record_of(bytes + 8, 8);
+    expect(record.kind == FRAME_RECORD && record.clock == 0xFFFEFDFC
+               && record.frame == 0xC502FF,
+           "a written record reads back");
+}
+
 /* ---- any input ---- */
 
 static uint64_t random_state = 1;
@@ -2110,6 +2738,75 @@ static bool compare_anything(const Places *places)
     return fits;
 }
 
+/* The number that a session is refused with, or 0: as all calls test the map,
+   then by its records. */
+static uint32_t number_of_ask(const Places *places, const Ask *ask)
+{
+    uint32_t number =
+        second_check(places->map, places->map_len, places->store,
+                     places->store_len, places->store_len);
+    if (number >= MAP_LENGTH && number <= RECORD_ORDER) {
+        return number;
+    }
+    const uint8_t *record =
+        record_from(places->map, places->map_len, ask->bank, ask->location);
+    if (record == NULL) {
+        return NO_VALUE;
+    }
+    if (!record_writable(record)) {
+        return NOT_WRITABLE;
+    }
+    return ask->bytes_len != record[2] || ask->address > 63 ? FIELD_OUT_OF_RANGE
+                                                            : 0;
+}
+
+/* Anything, or mostly what a record holds. */
+static Ask any_ask(const Places *places)
+{
+    Ask ask = ask_of(any_number() % 66, any_number() % 260, any_number() % 260,
+                     any_number() % 10);
+    if (places->map_len >= 8 && any_number() % 8 != 0) {
+        const uint8_t *record =
+            places->map + any_number() % (places->map_len / 8) * 8;
+        ask.bank = record[0] + (any_number() % 16 == 0 ? 256u : 0u);
+        ask.location = record[1] + (any_number() % 16 == 0 ? 256u : 0u);
+        if (record[2] <= 9 && any_number() % 4 != 0) {
+            ask.bytes_len = record[2];
+        }
+    }
+    for (size_t i = 0; i < sizeof ask.bytes; i++) {
+        ask.bytes[i] = (uint8_t)any_number();
+    }
+    return ask;
+}
+
+/* What should be seen is to be seen so many times at least. */
+enum { OFTEN = 50 };
+
+/* How often each number was given to a session; 0 where it was accepted. */
+static unsigned session_numbers[NOT_WRITABLE + 1];
+
+/* A session of any bytes, in a place of exactly their length. */
+static bool session_anything(const Places *places)
+{
+    Ask ask = any_ask(places);
+    uint32_t number = number_of_ask(places, &ask);
+    uint8_t *bytes = exact_copy(ask.bytes, ask.bytes_len);
+    Session made = unwritten_session();
+    made.answer =
+        second_session(places->map, places->map_len, ask.address, ask.bank,
+                       ask.location, bytes, ask.bytes_len, made.places);
+    free(bytes);
+    session_numbers[number]++;
+    if (number != 0) {
+        return session_refused(&made, number);
+    }
+    return session_by_record(
+        &made,
+        record_from(places->map, places->map_len, ask.bank, ask.location),
+        &ask);
+}
+
 static bool run_any_list(void)
 {
     Places places = {0};
@@ -2121,7 +2818,8 @@ static bool run_any_list(void)
     places.image = exact_copy(bench.image, bench.store_len);
     bool holds = true;
     for (unsigned i = 0; i < 12; i++) {
-        holds = step_anything(&places) && find_anything(&places) && holds;
+        holds = step_anything(&places) && find_anything(&places)
+                && session_anything(&places) && holds;
     }
     holds = compare_anything(&places) && holds;
     free(places.map);
@@ -2139,8 +2837,453 @@ static void any_input(void)
         }
     }
     expect(unlike == 0,
-           "any input: refusals leave all, states stay sound, finds and lists "
-           "fit");
+           "any input: refusals leave all, states stay sound, finds, lists "
+           "and sessions fit");
+}
+
+/* Each number that a session may be given was given in the lists above. */
+static void any_session(void)
+{
+    static const uint32_t numbers[7] = {0,
+                                        FIELD_OUT_OF_RANGE,
+                                        MAP_LENGTH,
+                                        RECORD_FIELDS,
+                                        RECORD_ORDER,
+                                        NO_VALUE,
+                                        NOT_WRITABLE};
+    for (size_t i = 0; i < 7; i++) {
+        char what[40];
+        (void)snprintf(what, sizeof what, "any input: sessions given %u",
+                       (unsigned)numbers[i]);
+        expect(session_numbers[numbers[i]] >= OFTEN, what);
+    }
+}
+
+/* ---- sessions from any reached state ---- */
+
+/* Said once for each time it doesn't hold. */
+static void must(bool holds, const char *what)
+{
+    if (!holds) {
+        expect(false, what);
+    }
+}
+
+/* One in so many. */
+static bool one_in(uint32_t count)
+{
+    return any_number() % count == 0;
+}
+
+/* A record; its place is drawn later. */
+static void draw_record(Bench *bench, uint32_t bank, uint32_t first,
+                        uint32_t width, uint32_t kind, bool lockable)
+{
+    uint8_t *record = bench->map + bench->map_len;
+    record[0] = (uint8_t)bank;
+    record[1] = (uint8_t)first;
+    record[2] = (uint8_t)width;
+    record[3] = (uint8_t)kind;
+    record[4] = lockable ? 1 : 0;
+    bench->map_len += 8;
+}
+
+/* Mostly writable, but in bank 0. */
+static void draw_value(Bench *bench, uint32_t bank, uint32_t first,
+                       uint32_t width)
+{
+    static const uint8_t kinds[8] = {0, 1, 3, 2, 2, 4, 4, 4};
+    uint32_t kind = kinds[any_number() % (bank == 0 ? 3 : 8)];
+    bool writable = kind == 2 || kind == 4;
+    draw_record(bench, bank, first, width, kind, writable && !one_in(3));
+}
+
+/* At most nine records: 0x00, perhaps 0x01, the lock byte, and values with
+   holes between them, some of them up to 0xFE. */
+static void draw_bank(Bench *bench, uint32_t bank)
+{
+    uint32_t location = 3;
+    draw_record(bench, bank, 0, 1, 0, false);
+    if (one_in(3)) {
+        draw_value(bench, bank, 1, 1);
+    }
+    if (bank != 0) {
+        draw_record(bench, bank, 2, 1, 2, false);
+    }
+    for (uint32_t i = any_number() % 7; i > 0; i--) {
+        uint32_t width = 1 + any_number() % 8;
+        location += one_in(4) ? any_number() % 20 : 0;
+        if (one_in(16)) {
+            location = 0xFF - width;
+        }
+        draw_value(bench, bank, location, width);
+        location += width;
+        if (location > 0xE0) {
+            return;
+        }
+    }
+}
+
+/* Places in any order, some with gaps before them. */
+static void draw_places(Bench *bench)
+{
+    size_t order[64];
+    size_t offset = 0;
+    for (size_t i = 0; i < bench->map_len / 8; i++) {
+        size_t j = any_number() % (i + 1);
+        order[i] = i;
+        order[i] = order[j];
+        order[j] = i;
+    }
+    for (size_t i = 0; i < bench->map_len / 8; i++) {
+        uint8_t *record = bench->map + order[i] * 8;
+        offset += one_in(8) ? any_number() % 3 : 0;
+        record[6] = (uint8_t)(offset >> 8);
+        record[7] = (uint8_t)(offset & 0xFF);
+        offset += record[2];
+    }
+    bench->store_len = offset + any_number() % 3;
+}
+
+/* Any bytes, but at 0x00 of each bank the last location or a higher one. */
+static void draw_bytes(Bench *bench)
+{
+    uint32_t last = 0;
+    for (size_t i = 0; i < sizeof bench->store; i++) {
+        bench->store[i] = (uint8_t)any_number();
+        bench->image[i] = (uint8_t)any_number();
+    }
+    for (size_t i = bench->map_len; i > 0; i -= 8) {
+        const uint8_t *record = bench->map + i - 8;
+        if (i == bench->map_len || record[0] != record[8]) {
+            last = record[1] + record[2] - 1u;
+        }
+        if (record[1] == 0) {
+            uint32_t least = last < 3 ? 3 : last;
+            bench->store[place_of(record)] =
+                (uint8_t)(least + any_number() % (255 - least));
+        }
+    }
+}
+
+/* A unit with one to five banks; its clock may soon run over. */
+static Bench drawn_bench(void)
+{
+    Bench bench = {0};
+    uint32_t bank = one_in(3) ? 0 : 1 + any_number() % 9;
+    for (uint32_t i = any_number() % 5 + 1; i > 0; i--) {
+        draw_bank(&bench, i == 1 && one_in(4) ? 199 : bank);
+        bank += 1 + any_number() % (one_in(2) ? 2 : 40);
+    }
+    draw_places(&bench);
+    draw_bytes(&bench);
+    must(start_bench(&bench, any_number() % 64, any_number()) == 0,
+         "a drawn unit starts");
+    bench.clock = one_in(2) ? 0u - any_number() % 2000 : any_number();
+    return bench;
+}
+
+/* A frame mostly soon after the last one; it is accepted. */
+static void go(Bench *bench, uint32_t frame)
+{
+    bench->clock += any_number() % (one_in(6) ? 300 : 12);
+    must((step_at(bench, frame, bench->clock) & 0xFF) == 0,
+         "a frame of a run is accepted");
+}
+
+/* A device command by one of the ways to the unit. */
+static uint32_t own_frame(const Bench *bench, uint32_t opcode)
+{
+    uint32_t group = any_number() % 32;
+    uint32_t address_byte = 0xFF;
+    if (bench->unit.address <= 63 && !one_in(4)) {
+        address_byte = bench->unit.address * 2u + 1;
+    } else if ((bench->unit.groups >> group & 1u) == 1u && one_in(2)) {
+        address_byte = 0x81 + group * 2;
+    }
+    return address_byte << 16 | 0xFE00 | opcode;
+}
+
+static void go_twice(Bench *bench, uint32_t frame)
+{
+    go(bench, frame);
+    go(bench, frame);
+}
+
+static const uint8_t *any_record(const Bench *bench)
+{
+    return bench->map + any_number() % (bench->map_len / 8) * 8;
+}
+
+/* A value's bytes from its first one on, perhaps not all of them. */
+static void go_bytes(Bench *bench, const uint8_t *record)
+{
+    uint32_t count = any_number() % (record[2] + 1u);
+    go(bench, 0xC70000u | (uint32_t)record[0] << 8 | record[1]);
+    for (uint32_t i = 0; i < count; i++) {
+        go(bench, (one_in(2) ? 0xC12000 : 0xC12100) + any_number() % 256);
+    }
+}
+
+/* Opens write-enable, mostly unlocks the record's bank, then writes. */
+static void go_writing(Bench *bench, const uint8_t *record)
+{
+    go_twice(bench, own_frame(bench, 0x15));
+    go(bench, 0xC13100u | record[0]);
+    if (!one_in(4)) {
+        go(bench, one_in(8) ? 0xC50254 : 0xC50255);
+    }
+    go_bytes(bench, record);
+}
+
+/* Leaves a part of a value staged, if the record drawn can have one and the
+   two ENABLEs are a pair. */
+static void go_staging(Bench *bench)
+{
+    const uint8_t *record = any_record(bench);
+    for (uint32_t i = 0; i < 8 && !(record_writable(record) && record[2] > 1);
+         i++) {
+        record = any_record(bench);
+    }
+    go_twice(bench, own_frame(bench, 0x15));
+    go(bench, 0xC13100u | record[0]);
+    go(bench, 0xC50255);
+    go(bench, 0xC13000u | record[1]);
+    for (uint32_t i = 1; i < record[2] && (i == 1 || !one_in(4)); i++) {
+        go(bench, 0xC12000 + any_number() % 256);
+    }
+}
+
+/* A session, perhaps cut. */
+static void go_session(Bench *bench, const uint8_t *record)
+{
+    Ask ask = ask_of(bench->unit.address, record[0], record[1], record[2]);
+    Session made = session(bench->map, bench->map_len, &ask);
+    uint32_t count = made.answer >> 8;
+    count = one_in(2) ? count : any_number() % (count + 1);
+    for (uint32_t i = 0; i < count; i++) {
+        go(bench, made.places[i]);
+    }
+}
+
+static void go_reading(Bench *bench, const uint8_t *record)
+{
+    go(bench, 0xC70000u | (uint32_t)record[0] << 8 | record[1]);
+    for (uint32_t i = any_number() % 4; i > 0; i--) {
+        go(bench, own_frame(bench, 0x3C));
+    }
+}
+
+static void go_anywhere(Bench *bench)
+{
+    static const uint8_t opcodes[16] = {0x11, 0x14, 0x15, 0x19, 0x1A, 0x1B,
+                                        0x1C, 0x33, 0x36, 0x37, 0x38, 0x3C,
+                                        0x41, 0x42, 0x43, 0x44};
+    static const uint32_t registers_of[5] = {0xC13000, 0xC13100, 0xC13200,
+                                             0xC70000, 0xC90000};
+    const uint8_t *record = any_record(bench);
+    switch (any_number() % 10) {
+    case 0:
+        go(bench, own_frame(bench, opcodes[any_number() % 16]));
+        break;
+    case 1:
+        go_twice(bench, own_frame(bench, opcodes[any_number() % 7]));
+        break;
+    case 2:
+        go(bench, registers_of[any_number() % 5] | any_number() % 256);
+        break;
+    case 3:
+        go(bench, any_number() % 0x1000000);
+        break;
+    case 4:
+        go_reading(bench, record);
+        break;
+    case 5:
+    case 6:
+        go_session(bench, record);
+        break;
+    case 7:
+        must(!one_in(4) || power_on(bench) == 0,
+             "a power-on of a run is accepted");
+        break;
+    default:
+        go_writing(bench, record);
+        break;
+    }
+}
+
+/* A short address, whatever the unit holds. */
+static void go_addressed(Bench *bench)
+{
+    go(bench, 0xC13000 | any_number() % 64);
+    go_twice(bench, 0xFFFE14);
+    while (bench->unit.address > 63) {
+        go(bench, 0xFFFE14); /* until two of them are a pair */
+    }
+}
+
+/* Some way, and at its end often an ENABLE waiting, a value staged or a bank
+   left unlocked. */
+static void go_on(Bench *bench)
+{
+    for (uint32_t i = any_number() % 8; i > 0; i--) {
+        go_anywhere(bench);
+    }
+    if (bench->unit.address > 63) {
+        go_addressed(bench);
+    }
+    uint32_t end = any_number() % 4;
+    if (end <= 1) {
+        go_staging(bench);
+    }
+    if (end >= 1 && end <= 2) {
+        go(bench, (bench->unit.address * 2u + 1) << 16 | 0xFE15);
+    }
+}
+
+/* What the sessions began with. */
+typedef struct Seen {
+    unsigned sessions;
+    unsigned waiting;     /* an ENABLE that would pair with the session's */
+    unsigned other;       /* another frame was waiting */
+    unsigned staged;      /* bytes were staged */
+    unsigned staged_same; /* of the value itself */
+    unsigned unlocked;    /* the value's bank was unlocked */
+    unsigned latched;     /* a latch was held */
+    unsigned latched_same;
+    unsigned open;        /* write-enable was open */
+    unsigned runs_over;   /* the clock ran over during the session */
+    unsigned lock_byte;   /* the value was the lock byte */
+    unsigned widths[2][9]; /* by lockable, and by width */
+    unsigned unlike;
+} Seen;
+
+static void see(Seen *seen, const Bench *bench, const uint8_t *record,
+                uint32_t clock)
+{
+    const Unit *unit = &bench->unit;
+    uint32_t enable = (unit->address * 2u + 1) << 16 | 0xFE15;
+    bool pairs = unit->waiting == 1 && unit->waiting_frame == enable
+                 && (uint32_t)(clock + 1 - unit->waiting_clock) <= 100;
+    bool staged_same = unit->staged > 0 && unit->staged_bank == record[0]
+                       && unit->staged_first == record[1];
+    bool latched_same = unit->latched == 1 && unit->latched_bank == record[0]
+                        && unit->latched_first == record[1];
+    const uint8_t *lock_byte =
+        record_from(bench->map, bench->map_len, record[0], 2);
+    seen->sessions++;
+    seen->waiting += pairs ? 1 : 0;
+    seen->other += unit->waiting == 1 && unit->waiting_frame != enable ? 1 : 0;
+    seen->staged += unit->staged > 0 ? 1 : 0;
+    seen->staged_same += staged_same ? 1 : 0;
+    seen->unlocked += bench->store[place_of(lock_byte)] == 0x55 ? 1 : 0;
+    seen->latched += unit->latched;
+    seen->latched_same += latched_same ? 1 : 0;
+    seen->open += unit->write_enable;
+    seen->runs_over += clock + 3 < 3 ? 1 : 0;
+    seen->lock_byte += record[1] == 2 ? 1 : 0;
+    seen->widths[record[4]][record[2]]++;
+}
+
+/* Soon after the last frame, so that the clock runs over, or any clock. */
+static uint32_t any_clock(const Bench *bench)
+{
+    switch (any_number() % 4) {
+    case 0:
+        return 0u - any_number() % 14;
+    case 1:
+        return any_number();
+    default:
+        return bench->clock + any_number() % 102;
+    }
+}
+
+/* A session for each writable value, each from the same state. */
+static void see_sessions(Seen *seen, const Bench *bench)
+{
+    static const uint8_t often[4] = {0x55, 0xFF, 0x00, 0x54};
+    for (size_t i = 0; i < bench->map_len; i += 8) {
+        const uint8_t *record = bench->map + i;
+        uint32_t clock = any_clock(bench);
+        uint8_t bytes[8];
+        for (size_t j = 0; j < 8; j++) {
+            bytes[j] = one_in(3) ? often[any_number() % 4]
+                                 : (uint8_t)any_number();
+        }
+        if (record_writable(record)) {
+            see(seen, bench, record, clock);
+            if (!session_holds(bench, record, bytes, clock)) {
+                seen->unlike++;
+            }
+        }
+    }
+}
+
+static void expect_seen(const Seen *seen)
+{
+    expect(seen->waiting >= OFTEN, "any state: an ENABLE of it waiting");
+    expect(seen->other >= OFTEN, "any state: another frame waiting");
+    expect(seen->staged >= OFTEN, "any state: bytes staged");
+    expect(seen->staged_same >= OFTEN, "any state: the value's own staged");
+    expect(seen->unlocked >= OFTEN, "any state: the bank unlocked");
+    expect(seen->latched >= OFTEN, "any state: a latch held");
+    expect(seen->latched_same >= OFTEN, "any state: the value's own latched");
+    expect(seen->open >= OFTEN, "any state: write-enable open");
+    expect(seen->runs_over >= OFTEN, "any state: the clock runs over");
+    expect(seen->lock_byte >= OFTEN, "any state: a lock byte as the value");
+    for (size_t width = 1; width <= 8; width++) {
+        expect(seen->widths[0][width] >= OFTEN
+                   && seen->widths[1][width] >= OFTEN,
+               "any state: each width, lockable and not");
+    }
+}
+
+/* The state with any DTRs, waiting clock, staged and latched bytes: accepted,
+   though perhaps no run reaches it. */
+static Bench altered_bench(const Bench *bench)
+{
+    Bench altered = *bench;
+    Unit *unit = &altered.unit;
+    unit->dtr0 = (uint8_t)any_number();
+    unit->dtr1 = (uint8_t)any_number();
+    unit->dtr2 = (uint8_t)any_number();
+    if (unit->waiting == 1) {
+        unit->waiting_clock =
+            one_in(2) ? any_number() : bench->clock - any_number() % 120;
+    }
+    for (size_t i = 0; i < unit->staged; i++) {
+        unit->staged_bytes[i] = (uint8_t)any_number();
+    }
+    if (unit->latched == 1) {
+        const uint8_t *record =
+            record_from(altered.map, altered.map_len, unit->latched_bank,
+                        unit->latched_first);
+        for (size_t i = 0; i < record[2]; i++) {
+            unit->latched_bytes[i] = (uint8_t)any_number();
+        }
+    }
+    return altered;
+}
+
+/* 400 units, each in eight states of its run, and in eight near these. What
+   was seen is counted over the reached ones. */
+static void any_state(void)
+{
+    Seen seen = {0};
+    Seen near = {0};
+    random_state = 2;
+    for (unsigned i = 0; i < 400; i++) {
+        Bench bench = drawn_bench();
+        for (unsigned j = 0; j < 8; j++) {
+            go_on(&bench);
+            see_sessions(&seen, &bench);
+            Bench altered = altered_bench(&bench);
+            see_sessions(&near, &altered);
+        }
+    }
+    expect(near.unlike == 0, "any altered state: the same");
+    expect(seen.unlike == 0, "any state: a session leaves what it promises");
+    expect_seen(&seen);
 }
 
 int main(void)
@@ -2154,13 +3297,17 @@ int main(void)
         compare_one_byte, compare_under_no_record, compare_falling_places,
         compare_room, compare_64, compare_map_refusals,
         compare_length_refusals, compare_store_refusals, compare_order,
-        compare_one_buffer, compare_empty_map, start_calls, power_on_calls,
+        compare_one_buffer, compare_empty_map, session_of_sheet,
+        session_frames, session_widths, session_refusals, session_map_lengths,
+        session_map_refusals, session_unsound, session_states,
+        session_runs_over, start_calls, power_on_calls,
         idle_state_rules, waiting_state_rules, staged_state_rules,
         latched_state_rules, order_of_step, packed_states,
         pairs_from_the_left, frames_between_halves, what_keeps_write_enable,
         writes_not_executed, writes_not_taken, staging_again, locks,
         banks_apart, every_width, reads, latch_and_writes, resets, addresses, groups,
-        registers, trace_files, trace_records, any_input};
+        registers, trace_files, trace_records, written_records, any_input,
+        any_session, any_state};
     for (size_t i = 0;
          i < sizeof groups_of_checks / sizeof groups_of_checks[0]; i++) {
         groups_of_checks[i]();

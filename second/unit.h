@@ -23,7 +23,8 @@ enum {
     STATE_RULE = 12,        /* a rule of a state broken */
     TRACE_RECORD = 13,      /* trace record unfinished or of unknown kind */
     NO_VALUE = 14,          /* no value begins there */
-    ROOM_TOO_SMALL = 15     /* output room too small */
+    ROOM_TOO_SMALL = 15,    /* output room too small */
+    NOT_WRITABLE = 16       /* value not writable */
 };
 
 enum {
@@ -32,6 +33,7 @@ enum {
     VALUE_LIMIT = 8,    /* width 1..8 */
     STATE_BYTES = 96,   /* a state as bytes */
     LISTED_BYTES = 24,  /* a value in the compare call's list */
+    SESSION_ROOM = 13,  /* places for the frames of a session */
     NO_ADDRESS = 255    /* short address 0..63 or 255 */
 };
 
@@ -121,6 +123,22 @@ uint32_t second_compare(const uint8_t *map, size_t map_len,
                         const uint8_t *old_store, size_t old_len,
                         const uint8_t *new_store, size_t new_len,
                         uint8_t *output, size_t output_len);
+
+/* The session call: number | count << 8, and in the first count of the 13
+   places the frames that write a value, with its bytes as told, to the unit
+   with a short address:
+     DTR1 := bank
+     ENABLE WRITE MEMORY to the short address, twice
+     DIRECT WRITE MEMORY 0x55 to 0x02, for a lockable value
+     DIRECT WRITE MEMORY of each byte to its location
+     DIRECT WRITE MEMORY 0xFF to 0x02, for a lockable value
+   It tests 7 to 9, then 14, also for a bank or location that no byte holds,
+   then 16, then 6: as many bytes as the value is wide, an address of 0..63. All
+   13 places are written, those past the frames with 0. A refusal is its number
+   alone, its count 0, and all its places 0. */
+uint32_t second_session(const uint8_t *map, size_t map_len, uint32_t address,
+                        uint32_t bank, uint32_t location, const uint8_t *bytes,
+                        size_t bytes_len, uint32_t frames[SESSION_ROOM]);
 
 /* Start, a later power-on, a frame step:
    number | answered << 8 | answer << 16. */

@@ -8,7 +8,7 @@ BEGIN {
     floor("map", "map, store and reset image", "records banks looks")
     floor("without a unit", "tools over bytes, map and store; no state", "compare entries")
     floor("unit", "who a frame is for, the state, and what a frame does", "memory hearing rooms numbers unit")
-    floor("above the unit", "many frames in a row", "history tracing")
+    floor("above the unit", "many frames in a row", "session history tracing")
     floor("faces", "bytes, words and calls for others", "packing faces text places telling showing mirtofalko")
     floor("claims", "demand 3 of the C calls, and what is promised, on one page", "lifted claims")
     floor("programs", "what is run", "")

@@ -93,7 +93,8 @@ crates_for() {
 }
 
 # proving NAMES COMMAND..: runs a command that proves the crates NAMES and what they need, and says on standard error how
-# far it is, a line a crate; nothing where nothing is to be proved. What it printed is shown where it fails.
+# far it is, a line a crate; nothing where nothing is to be proved. What it printed is shown where it fails. Two at a time, as in a
+# pipe from one ./mirto to another, take turns: `rt` keeps notes in target/, and would read the other's.
 proving() {
     crates=$(crates_for $1)
     shift
@@ -103,7 +104,15 @@ proving() {
         [ -f "target/stamp/$crate" ] || missing=$((missing + 1))
     done
     [ "$missing" -eq 0 ] || say "proving what this needs: $missing of $all crates, which can take minutes"
-    { "$@" 2>&1 </dev/null && echo 'all is proved'; } | say_progress
+    { in_turn && "$@" 2>&1 </dev/null 9<&- && echo 'all is proved'; } 9<crates.txt | say_progress
+}
+
+# in_turn: locks the file of descriptor 9, once no other has it locked
+in_turn() {
+    need flock util-linux || return
+    flock -w 5 9 && return
+    say 'another ./mirto is proving: waiting for it'
+    flock 9
 }
 
 # say_progress: of what `rt` prints

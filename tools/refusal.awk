@@ -1,7 +1,8 @@
-# The place of a refusal 6 to 11, as a sentence; status 1 where there is one. Records are counted from 1, as a person counts
-# them. On standard input each file: a line with its name and size, then its first bytes as numbers; of an image, only where it
-# is another store, to be tested as the first is. A word behind the size says that the file has more than is allowed, and it is
-# not known how many. The files are called unit.map, unit.sto and unit.rst, or what the variables `map`, `sto` and `rst` say.
+# The place of a refusal 6 to 11, 14 or 16, as a sentence; status 1 where there is one. Records are counted from 1, as a person
+# counts them. On standard input each file: a line with its name and size, then its first bytes as numbers; of an image, only
+# where it is another store, to be tested as the first is. A word behind the size says that the file has more than is allowed, and
+# it is not known how many. The files are called unit.map, unit.sto and unit.rst, or what the variables `map`, `sto` and `rst`
+# say. Of a session the variable `asked` has the short address, the bank, the location, and how many bytes are given.
 BEGIN {
     if (map == "") map = "unit.map"
     if (sto == "") sto = "unit.sto"
@@ -18,14 +19,15 @@ $1 ~ /^[a-z]/ { name = $1; size[name] = $2; more[name] = $3 != ""; next }
 
 END {
     n = int(size["map"] / 8)
-    if (number == 6) address()
+    if (number == 6 && asked == "") address()
     if (number == 7) length_of_map()
     read_records()
     if (number == 8) fields()
     if (number == 9) order()
     if (number == 10) places()
     if (number == 11) banks()
-    if (number != 0 && size["sto"] != 4) end_with("the start is refused")
+    if (asked != "") session()
+    else if (number != 0 && size["sto"] != 4) end_with("the start is refused")
 }
 
 function read_records(    i) {
@@ -115,4 +117,25 @@ function stored(name, called,    i, j, head, b) {
             end_with("the stored byte of bank " bank[i] " at location 0 is " b ", below its location " end[i],
                 "byte " offset[head] " of " called)
     }
+}
+
+# of a number over 255 only that is known
+function session(    a, i, at, place, called) {
+    split(asked, a, " ")
+    if (number == 14 && a[2] > 255) end_with("no value begins there: the bank is over 255")
+    if (number == 14 && a[3] > 255) end_with("no value begins there: the location is over 255")
+    place = sprintf("bank %d, location 0x%02X", a[2], a[3])
+    at = -1
+    for (i = 0; i < n; i++) if (bank[i] == a[2] && from[i] <= a[3] && a[3] <= end[i]) at = i
+    if (number == 14 && at < 0) end_with("no value begins at " place)
+    if (number == 14) end_with(sprintf("no value begins at %s: the value there begins at 0x%02X", place, from[at]))
+    split("ROM RAM-RO RAM-RW NVM-RO NVM-RW", called, " ")
+    if (number == 16) end_with("the value at " place " is not writable: it is " called[kind[at] + 1])
+    if (number == 6) end_with(wrong_fields(a[1] > 63, width[at], a[4]))
+}
+
+function wrong_fields(over, has, given,    counts) {
+    counts = "the value has " has (has == 1 ? " byte" : " bytes") ", and " given (given == 1 ? " was" : " were") " given"
+    if (!over) return counts
+    return "the address is over 63" (has == given ? "" : "; " counts)
 }

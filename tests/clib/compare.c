@@ -18,7 +18,7 @@
 
 /* ---- counting ---- */
 
-enum Call { CHECK, LOOK, FIND, COMPARE, READ, WRITE, EVENT_COMPOSER, POWER_COMPOSER, START, STEP, POWER_ON, RUN, CALLS };
+enum Call { CHECK, LOOK, FIND, COMPARE, SESSION, READ, WRITE, EVENT_COMPOSER, POWER_COMPOSER, START, STEP, POWER_ON, RUN, CALLS };
 
 static const struct {
     const char *name;
@@ -29,6 +29,7 @@ static const struct {
     [LOOK] = {"mf_look", 0x4F81, false},
     [FIND] = {"mf_find", 0x03C1, false},
     [COMPARE] = {"mf_compare", 0x8F81, false},
+    [SESSION] = {"mf_session", 0x143C1, false},
     [READ] = {"mf_read", 0x003F, false},
     [WRITE] = {"mf_write", 0x0041, false},
     [EVENT_COMPOSER] = {"mf_compose_event", 0x0041, false},
@@ -71,6 +72,8 @@ enum Seen {
     FOUND_BY_MAP_ALONE, EXAMINED_NONE, EXAMINED_ONE, EXAMINED_7, EVERY_PLACE,
     ALIKE, ALL_64, ROOM_EXACT, ROOM_SHORT, PAST_STAYS, ONE_BUFFER, UNDER_NO_RECORD, LOCK_LISTED, READ_ONLY_LISTED,
     OLD_HEAD_REFUSED, NEW_HEAD_REFUSED, NO_OUTPUT,
+    OF_13_FRAMES, OF_THE_LOCK_BYTE, SESSION_NOT_CUT, SESSION_ADDRESS_NOT_CUT, SESSION_BY_MAP_ALONE,
+    RAN, RAN_WRAPPED, RAN_WAITING, RAN_OPEN, RAN_STAGED, RAN_UNLOCKED, RAN_LATCHED, RAN_OVER, RAN_SAME,
     SHIPPED_WITH_ADDRESS, SHIPPED_WITHOUT_ADDRESS,
     SEEN
 };
@@ -129,6 +132,20 @@ static const char *const seen_names[SEEN] = {
     [OLD_HEAD_REFUSED] = "comparisons with a byte at 0x00 damaged in the old store, refused by 11",
     [NEW_HEAD_REFUSED] = "comparisons with a byte at 0x00 damaged in the new store, refused by 11",
     [NO_OUTPUT] = "comparisons of alike stores without any output",
+    [OF_13_FRAMES] = "sessions of 13 frames",
+    [OF_THE_LOCK_BYTE] = "sessions that write a lock byte itself",
+    [SESSION_NOT_CUT] = "sessions by a bank or location over 255, refused by 14",
+    [SESSION_ADDRESS_NOT_CUT] = "sessions by an address over 255, refused by 6",
+    [SESSION_BY_MAP_ALONE] = "sessions where mf_check gives 10 or 11",
+    [RAN] = "sessions run",
+    [RAN_WRAPPED] = "sessions run for a lockable value",
+    [RAN_WAITING] = "sessions run where their very ENABLE waits and would pair",
+    [RAN_OPEN] = "sessions run where write-enable is open",
+    [RAN_STAGED] = "sessions run where bytes are staged",
+    [RAN_UNLOCKED] = "sessions run where the bank is unlocked",
+    [RAN_LATCHED] = "sessions run where a value is latched",
+    [RAN_OVER] = "sessions run while the clock runs over",
+    [RAN_SAME] = "sessions run that leave every byte of the store as it was",
     [SHIPPED_WITH_ADDRESS] = "events composed as shipped, with a short address",
     [SHIPPED_WITHOUT_ADDRESS] = "events composed as shipped, without a short address",
 };
@@ -413,6 +430,115 @@ static void compare_call(Lent *l, const Kept *kept) {
     see(OLD_HEAD_REFUSED, old_spoiled && number == MF_BAD_BANK);
 }
 
+/* ---- a session ---- */
+
+static uint32_t legal_address(void) { return once_in(6) ? (uint32_t)MF_NO_ADDRESS : below(64); }
+static uint32_t any_address(void) {
+    if (once_in(8)) return legal_address() | any() << 8; /* legal if it were cut */
+    return once_in(4) ? byte() : legal_address();
+}
+
+enum { FRAMES = MF_SESSION_FRAMES };
+
+/* What is asked for. */
+typedef struct Asked {
+    uint32_t address, bank, location;
+    uint8_t bytes[12];
+    size_t length;
+} Asked;
+
+static uint32_t our_session(const Lent *l, Kept *kept, const Asked *a, uint32_t frames[FRAMES]) {
+    const mf_unit unit = unit_of(l, kept);
+    if (once_in(2)) return mf_unit_session(&unit, a->address, a->bank, a->location, a->length > 0 ? a->bytes : NULL, a->length, frames);
+    return mf_session(l->map, l->map_length, a->address, a->bank, a->location, a->bytes, a->length, frames);
+}
+
+static uint32_t enable_to(uint32_t address) { return (address << 17 | 0x10000) + 0xFE15; }
+
+/* The record of the map that lies at a bank and location; NULL where none does. */
+static const uint8_t *record_of(Lent *l, uint32_t bank, uint32_t location) {
+    for (size_t i = 0; i < records(l); i++)
+        if (record(l, i)[0] == bank && record(l, i)[1] == location) return record(l, i);
+    return NULL;
+}
+
+static void see_run(const Kept *from, const Asked *a, uint32_t clock, uint32_t count, const uint8_t *r, const uint8_t *lock) {
+    const uint8_t *s = from->state;
+    uint32_t waits = (uint32_t)s[9] << 24 | (uint32_t)s[10] << 16 | (uint32_t)s[11] << 8 | s[12];
+    uint32_t since = clock - ((uint32_t)s[13] << 24 | (uint32_t)s[14] << 16 | (uint32_t)s[15] << 8 | s[16]);
+    see(RAN, true), see(RAN_WRAPPED, r[4] == 1), see(RAN_OVER, clock + (count - 1) < clock);
+    see(RAN_WAITING, s[8] == 1 && waits == enable_to(a->address) && since <= 100);
+    see(RAN_OPEN, s[17] == 1), see(RAN_STAGED, s[18] > 0), see(RAN_LATCHED, s[29] == 1);
+    see(RAN_UNLOCKED, r[4] == 1 && from->store[place_of(lock)] == 0x55);
+}
+
+/* Our frames through the second program's unit, 1 ms apart: each is accepted, each write is answered by its byte, and the store is
+ * the old one with the value's bytes and, for a lockable value, the lock byte 0xFF. */
+static void run_session(Lent *l, Kept from, const Asked *a, const uint32_t *frames, uint32_t count, uint32_t clock) {
+    const uint8_t *r = record_of(l, a->bank, a->location), *lock = record_of(l, a->bank, 2);
+    uint32_t enable = enable_to(a->address);
+    if (once_in(3)) /* a first half of the session's own pair waits */
+        second_frame_bytes(l->map, l->map_length, from.store, l->store_length, l->image, l->image_length, from.state, enable,
+                           clock - below(100));
+    Kept after = from, expected = from;
+    bool accepted = true, answered = true;
+    memcpy(expected.store + place_of(r), a->bytes, a->length);
+    if (r[4] == 1) expected.store[place_of(lock)] = 0xFF;
+    for (uint32_t i = 0; i < count; i++) {
+        uint32_t answer = second_frame_bytes(l->map, l->map_length, after.store, l->store_length, l->image, l->image_length,
+                                             after.state, frames[i], clock + i);
+        accepted &= mf_number(answer) == MF_OK;
+        answered &= i < 3 ? answer == 0 : mf_answered(answer) && mf_answer(answer) == (frames[i] & 0xFF);
+    }
+    expect_call(SESSION, "run, and a step refused", accepted);
+    expect_call(SESSION, "run, and a write not answered by its byte, or another frame answered", answered);
+    expect_call(SESSION, "run, and another store", memcmp(after.store, expected.store, sizeof after.store) == 0);
+    see_run(&from, a, clock, count, r, lock);
+    see(RAN_SAME, memcmp(after.store, from.store, sizeof after.store) == 0);
+}
+
+/* Mostly a writable value and as many bytes as it has, by the unit's own address; now and then another place, too large a number,
+ * another count. */
+static Asked any_session(Lent *l, const Kept *kept) {
+    Asked a = {kept->state[0], below(20), below(16), {0}, below(10)};
+    const uint8_t *r = records(l) > 0 && !once_in(12) ? record(l, below((uint32_t)records(l))) : NULL;
+    for (uint32_t tries = 0; r && !is_writable(r) && tries < 8; tries++) r = record(l, below((uint32_t)records(l)));
+    if (r) a.bank = r[0], a.location = r[1], a.length = r[2] < sizeof a.bytes ? r[2] : sizeof a.bytes;
+    for (size_t i = 0; i < sizeof a.bytes; i++) a.bytes[i] = byte();
+    if (r && once_in(6) && place_of(r) + a.length <= ROOM) memcpy(a.bytes, kept->store + place_of(r), a.length);
+    if (once_in(10)) a.length = below(sizeof a.bytes + 1);
+    if (once_in(10)) a.address = once_in(2) ? 64 : any_address();
+    if (once_in(20)) a.location = once_in(2) ? a.location + 1 : byte();
+    if (once_in(30)) a.bank |= too_large();
+    if (once_in(30)) a.location |= too_large();
+    return a;
+}
+
+/* It answers the number. The frames are run where `runs` says so and the unit has the address. */
+static uint32_t session_call(Lent *l, const Kept *kept, uint32_t clock, bool runs) {
+    static const uint32_t zeros[FRAMES];
+    uint32_t mine[FRAMES], other[FRAMES];
+    Kept copy = *kept;
+    Asked a = any_session(l, kept);
+    const uint8_t *r = record_of(l, a.bank & 0xFF, a.location & 0xFF);
+    memset(mine, 0xA5, sizeof mine), memset(other, 0x5A, sizeof other);
+    uint32_t ours = our_session(l, &copy, &a, mine);
+    same(SESSION, ours, second_session(l->map, l->map_length, a.address, a.bank, a.location, a.bytes, a.length, other), ours);
+    expect_call(SESSION, "other frames", memcmp(mine, other, sizeof mine) == 0);
+    see(SESSION_NOT_CUT, r && is_writable(r) && (a.bank > 255 || a.location > 255) && ours == MF_BAD_LOCATION);
+    see(SESSION_ADDRESS_NOT_CUT, a.address > 255 && ours == MF_BAD_FIELD);
+    if (mf_number(ours) != MF_OK) {
+        expect_call(SESSION, "refused, and counted or with a frame", ours < 256 && memcmp(mine, zeros, sizeof mine) == 0);
+        return mf_number(ours);
+    }
+    uint32_t count = mf_frames(ours);
+    expect_call(SESSION, "another count than the value's", count == 3 + a.length + 2u * r[4]);
+    see(OF_13_FRAMES, count == FRAMES), see(OF_THE_LOCK_BYTE, a.location == 2 && count == 4);
+    if (once_in(8)) clock = 0xFFFFFFFF - below(14); /* it runs over, mostly inside */
+    if (runs && a.address == kept->state[0]) run_session(l, *kept, &a, mine, count, clock);
+    return MF_OK;
+}
+
 /* ---- a run of records, against the second program's calls one after the other ---- */
 
 enum { RECORDS = 8, OUTPUT = 4 * RECORDS + 4 };
@@ -480,13 +606,7 @@ static void run_call(const Lent *l, Kept *kept, const uint8_t *bytes) {
     *kept = mine;
 }
 
-/* ---- sessions ---- */
-
-static uint32_t legal_address(void) { return once_in(6) ? (uint32_t)MF_NO_ADDRESS : below(64); }
-static uint32_t any_address(void) {
-    if (once_in(8)) return legal_address() | any() << 8; /* legal if it were cut */
-    return once_in(4) ? byte() : legal_address();
-}
+/* ---- units ---- */
 
 /* The calls on a damaged copy, and whether the damage gave its number. */
 static void try_damaged(const Lent *lent, const Kept *kept, uint32_t clock, const uint8_t *bytes) {
@@ -506,6 +626,8 @@ static void try_damaged(const Lent *lent, const Kept *kept, uint32_t clock, cons
     look_call(&other, &copy);
     uint32_t found = find_call(&other, &copy);
     if (once_in(4)) compare_call(&other, &copy);
+    uint32_t written = session_call(&other, &copy, clock, false);
+    see(SESSION_BY_MAP_ALONE, (checked == MF_BAD_PLACES || checked == MF_BAD_BANK) && written == MF_OK);
     see(FOUND_BY_MAP_ALONE, (checked == MF_BAD_PLACES || checked == MF_BAD_BANK) && found == MF_OK);
     if (!done) return;
     damaged[which]++;
@@ -515,7 +637,7 @@ static void try_damaged(const Lent *lent, const Kept *kept, uint32_t clock, cons
 }
 
 /* A unit that keeps all rules, through so many frames. Its start must be accepted. */
-static void session(uint32_t steps) {
+static void one_unit(uint32_t steps) {
     static Lent lent, lent_before;
     static Kept kept;
     uint8_t bytes[8 * RECORDS];
@@ -534,6 +656,7 @@ static void session(uint32_t steps) {
         look_call(&lent, &kept);
         find_call(&lent, &kept);
         compare_call(&lent, &kept);
+        session_call(&lent, &kept, clock, once_in(3));
         if (once_in(25)) clock = make_records(&plan, &lent, &kept, clock, bytes), run_call(&lent, &kept, bytes);
         make_records(&aside, &lent, &kept, clock, bytes);
         try_damaged(&lent, &kept, clock, bytes);
@@ -681,7 +804,7 @@ int main(int argc, char **argv) {
     enum { STEPS = 200 };
     begin(seed);
     printf("seed %" PRIu64 "\n", seed);
-    for (uint64_t i = 0; i < least; i += STEPS) session(STEPS);
+    for (uint64_t i = 0; i < least; i += STEPS) one_unit(STEPS);
     every_place_of_some();
     for (uint64_t i = 0; i < least; i++) read_and_write(), compose();
     for (enum Call call = CHECK; call < CALLS; call++) show_call(call, least);

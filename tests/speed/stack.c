@@ -19,7 +19,7 @@ static void (*job)(void);
 
 static Lent lent;
 static Kept kept, tried;
-static uint32_t frame, now;
+static uint32_t frame, now, session_frames[MF_SESSION_FRAMES];
 static uint64_t word;
 
 static void do_nothing(void) {}
@@ -62,6 +62,12 @@ static void do_compare(void)
 {
     mf_compare(lent.map, lent.map_length, kept.store, lent.store_length, others, lent.store_length, list, sizeof list);
 }
+/* Of one record after the other: the deepest one is that of a lockable value of eight bytes. */
+static void do_session(void)
+{
+    const uint8_t *r = record(&lent, now / 10 % (records(&lent) > 0 ? records(&lent) : 1));
+    mf_session(lent.map, lent.map_length, ADDRESS, r[0], r[1], list, r[2] <= 8 ? r[2] : 0, session_frames);
+}
 static void do_read(void) { word = mf_read(frame); }
 static void do_write(void) { mf_write(word); }
 static void do_compose_event(void)
@@ -79,8 +85,9 @@ static struct {
     {"mf_frame", do_frame, 0},           {"mf_power_on", do_power_on, 0},
     {"mf_run", do_run, 0},               {"mf_look", do_look, 0},
     {"mf_find", do_find, 0},             {"mf_compare", do_compare, 0},
-    {"mf_read", do_read, 0},             {"mf_write", do_write, 0},
-    {"mf_compose_event", do_compose_event, 0}, {"mf_compose_power", do_compose_power, 0},
+    {"mf_session", do_session, 0},       {"mf_read", do_read, 0},
+    {"mf_write", do_write, 0},           {"mf_compose_event", do_compose_event, 0},
+    {"mf_compose_power", do_compose_power, 0},
 };
 
 enum { CALLS = sizeof calls / sizeof *calls };

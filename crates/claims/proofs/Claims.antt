@@ -33,6 +33,10 @@ use Rattle.compare.proofs.Numbered.{compare-shows, compare-alone, compare-settl
 use Rattle.compare.proofs.Shown.{differing-exactly, values-listed, list-rises, output-shows, past-stays}
 use Rattle.compare.proofs.Brought.{new-from-old, old-from-new}
 use Rattle.compare.proofs.Cases.{compare-cases}
+use Rattle.session.proofs.Numbered.{session-numbers, session-stands, session-not-cut, session-refuses, session-settled}
+use Rattle.session.proofs.Shown.{session-places, session-reads, session-shows, session-alone, session-word-settled}
+use Rattle.session.proofs.Ran.{session-runs, session-runs-at-any-pace}
+use Rattle.session.proofs.Cases.{session-cases}
 use Rattle.entries.proofs.Cases.{cases as entries-cases}
 use Rattle.entries.proofs.Moved.{rest-kept, rest-settled}
 use Rattle.entries.proofs.Codes.{one-entry, broken-is-13}
@@ -88,7 +92,7 @@ use Rattle.lifted.proofs.Demand.{demand-in-c, read-only-stay-in-c, accepts-as-u
 use Rattle.lifted.proofs.Following.{follows-unit}
 use Rattle.lifted.proofs.Each.{run-each, records-fit}
 use Rattle.claims.specs.Claims.{Frames, MapStoreImage, WhyMissing, Examined, TwoImages, StateClock, CommandsObeyed}
-use Rattle.claims.specs.Claims.{CompleteWriting, RefusalNumbers, TraceProgram, BenchSheet, ErrorsSeen, PlaceForms}
+use Rattle.claims.specs.Claims.{CompleteWriting, SessionWriter, RefusalNumbers, TraceProgram, BenchSheet, ErrorsSeen, PlaceForms}
 use Rattle.claims.specs.Claims.{Judging, CLibrary, Claims}
 
 frames : Frames
@@ -223,6 +227,21 @@ complete-writing = record {
   wrong-ones-fail = wrong-ones-fail;
 }
 
+session-writer : SessionWriter
+session-writer = record {
+  session-numbers = session-numbers;
+  session-stands = session-stands;
+  session-not-cut = session-not-cut;
+  refused-session-has-no-frame = session-refuses;
+  places-of-the-frames = session-places;
+  frames-read-so = session-reads;
+  session-runs = session-runs;
+  session-runs-at-any-pace = session-runs-at-any-pace;
+  sessions-come-back = session-shows;
+  refused-session-is-its-number = session-alone;
+  session-boundaries = session-cases;
+}
+
 refusal-numbers : RefusalNumbers
 refusal-numbers = record {
   exactly-if = exactly-if;
@@ -298,6 +317,8 @@ judging = record {
   find-word-settled = find-word-settled;
   compare-settled = compare-settled;
   compare-word-settled = compare-word-settled;
+  session-settled = session-settled;
+  session-word-settled = session-word-settled;
   numbers-settled = numbers-settled;
   calls-settled = calls-settled;
   entry-settled = entry-settled;
@@ -343,6 +364,7 @@ claims = record {
   state-clock = state-clock;
   commands-obeyed = commands-obeyed;
   complete-writing = complete-writing;
+  session-writer = session-writer;
   refusal-numbers = refusal-numbers;
   trace-program = trace-program;
   bench-sheet = bench-sheet;

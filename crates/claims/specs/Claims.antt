@@ -32,6 +32,10 @@ use Rattle.compare.specs.Promises.{CompareNumbers, CompareStands, SecondGives11
 use Rattle.compare.specs.Promises.{ListRises, OutputShows, PastStays, CompareRefuses, CompareMost, NewFromOld, OldFromNew}
 use Rattle.compare.specs.Promises.{CompareShows, CompareAlone, CompareSettled, CompareWordSettled}
 use Rattle.compare.specs.Cases.{CompareCases}
+use Rattle.session.specs.Promises.{SessionNumbers, SessionStands, SessionNotCut, SessionPlaces, SessionReads, SessionRefuses}
+use Rattle.session.specs.Promises.{SessionShows, SessionAlone, SessionSettled, SessionWordSettled}
+use Rattle.session.specs.Running.{SessionRuns, SessionRunsAtAnyPace}
+use Rattle.session.specs.Cases.{SessionCases}
 use Rattle.entries.specs.Cases.{Cases as EntriesCases}
 use Rattle.entries.specs.Promises.{RestKept, EntrySettled, RestSettled, FourBytesSettled}
 use Rattle.entries.specs.Codes.{OneEntry, BrokenIs13}
@@ -311,6 +315,35 @@ pub record CompleteWriting : Type 1 where
   -- "The unit that stores only the first value, then just answers, falls to demand 3", and so do two others
   pub wrong-ones-fail : WrongOnesFail
 
+-- ---- A session writer (paper 02, Item 2)
+
+pub record SessionWriter : Type 0 where
+  -- "Tested in order: 7, 8, 9, then 14 where no value begins, 16 if it isn't writable, 6 for a wrong byte count or an address
+  -- over 63": exactly if
+  pub session-numbers : SessionNumbers
+  -- and 0 exactly if none of them
+  pub session-stands : SessionStands
+  -- a bank or location that does not fit a byte is not cut: 14
+  pub session-not-cut : SessionNotCut
+  -- a refusal has its number, and no frame
+  pub refused-session-has-no-frame : SessionRefuses
+  -- at most 13 frames, and unused places are 0, whatever is handed in
+  pub places-of-the-frames : SessionPlaces
+  -- "DTR1 first, which clears any waiting frame; the ENABLE pair; the bytes in order; and for a lockable value lock byte 0x55
+  -- before them and 0xFF after": so the frames read
+  pub frames-read-so : SessionReads
+  -- "With frames 1 ms apart, no others on the wire and a unit holding that address, running them from any accepted state leaves
+  -- the value as given, the lock byte of a lockable value 0xFF, and every other store byte as it was"
+  pub session-runs : SessionRuns
+  -- and so at any other pace, if the second ENABLE comes at most 100 ms behind the first
+  pub session-runs-at-any-pace : SessionRunsAtAnyPace
+  -- as one number: each part stands in its bits
+  pub sessions-come-back : SessionShows
+  -- and a refusal is its number alone
+  pub refused-session-is-its-number : SessionAlone
+  -- the bench unit's nine frames, run from states that it has reached, and each boundary, in one table
+  pub session-boundaries : SessionCases
+
 -- ---- Refusal numbers
 
 pub record RefusalNumbers : Type 0 where
@@ -442,6 +475,10 @@ pub record Judging : Type 0 where
   pub compare-settled : CompareSettled
   -- of its one number, and the output
   pub compare-word-settled : CompareWordSettled
+  -- of a session
+  pub session-settled : SessionSettled
+  -- of its one number, and the frames in the lent array
+  pub session-word-settled : SessionWordSettled
   -- of the numbers of start, power-on and frame step
   pub numbers-settled : NumbersSettled
   -- of start, power-on and frame step: answer, state and store
@@ -462,7 +499,7 @@ pub record Judging : Type 0 where
   pub files-settled : FilesSettled
   -- of a state as 96 bytes
   pub packing-settled : Settled
-  -- of the twelve calls of the C library
+  -- of the thirteen calls of the C library
   pub faces-settled : FacesSettled
   -- "Facts over widths 1 to 8 are shown once, over the width": n writes leave the whole value
   pub whole-value : WholeValue
@@ -516,6 +553,7 @@ pub record Claims : Type 1 where
   pub state-clock : StateClock
   pub commands-obeyed : CommandsObeyed
   pub complete-writing : CompleteWriting
+  pub session-writer : SessionWriter
   pub refusal-numbers : RefusalNumbers
   pub trace-program : TraceProgram
   pub bench-sheet : BenchSheet

@@ -6,6 +6,7 @@ use mathlib.Core.Bool.{true}
 use mathlib.Core.List.{List, [], _∷_}
 use native.Mathlib.Omega.{arith}
 use lib.Dec.{ltb}
+use lib.ListN.{length}
 use borrow.Author.Tests.{ltb-true}
 use Rattle.laws.specs.Bits.{bits}
 use Rattle.laws.specs.Lists.{every}
@@ -27,6 +28,9 @@ use Rattle.finds.specs.Find.{findTests, findNumber, findWord}
 use Rattle.finds.proofs.Finds.{find-shows, find-alone}
 use Rattle.compare.specs.Compare.{compareTests, compareNumber, compareOf, compareWord}
 use Rattle.compare.proofs.Numbered.{compare-shows, compare-alone}
+use Rattle.session.specs.Session.{sessionTests, sessionNumber, sessionOf, sessionWord}
+use Rattle.session.proofs.Numbered.{number-is}
+use Rattle.session.proofs.Shown.{session-shows, session-alone}
 use Rattle.numbers.specs.Numbers.{startNumber}
 use Rattle.unit.proofs.Numbers.{calls-reply}
 use Rattle.faces.specs.Answers.{writtenOf, source}
@@ -74,6 +78,18 @@ compared-low map old new room (suc n) e =
     ap (λ (k : ℕ). bits k 7 0) (compare-alone map old new room (omega arith))
     ∙ itself _ (small _ (compareTests map old new room) refl refl)
 
+-- and of a session
+session-low : (map : List ℕ) (address bank location : ℕ) (bytes : List ℕ) (n : ℕ)
+    → sessionNumber map address bank location (length bytes) ≡ n
+    → bits (sessionWord (sessionOf map address bank location bytes)) 7 0
+    ≡ sessionNumber map address bank location (length bytes)
+unfolding sessionNumber
+session-low map address bank location bytes zero e =
+    session-shows map address bank location bytes e .number ∙ number-is map address bank location bytes
+session-low map address bank location bytes (suc n) e =
+    ap (λ (k : ℕ). bits k 7 0) (session-alone map address bank location bytes (omega arith))
+    ∙ itself _ (small _ (sessionTests map address bank location (length bytes)) refl refl)
+
 pub low-byte : LowByte
 unfolding startFace startNumber checkNumber lookNumber
 low-byte =
@@ -84,6 +100,7 @@ low-byte =
           ∙ look-number-is map store bank location;
       find = λ map bank location. found-low map bank location _ refl;
       compare = λ map old new room. compared-low map old new room _ refl;
+      session = λ map address bank location bytes. session-low map address bank location bytes _ refl;
       start = λ map store image address groups.
           faced (startFace map store image address groups) _ (calls-reply map store image .start _) refl;
       frame = λ map store image bytes frame clock.

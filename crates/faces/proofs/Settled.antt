@@ -5,6 +5,7 @@ use mathlib.Core.List.{List}
 use Prim.Native.Nat.{ℕ}
 use Rattle.laws.proofs.Settled.{settles}
 use Rattle.compare.proofs.Numbered.{compare-word-settled}
+use Rattle.session.proofs.Shown.{session-word-settled}
 use Rattle.faces.specs.Face.{Faced, Faces, RunFaced, RunFaces}
 use Rattle.faces.specs.Promises.{SettlesFaced, SettlesRun, Settled}
 
@@ -31,6 +32,7 @@ settled =
       look = λ map store bank location. settles _;
       find = λ map bank location. settles _;
       compare = compare-word-settled;
+      session = session-word-settled;
       read = λ frame. settles _;
       write = λ word. settles _;
       compose-event = λ sort number primary short groups information scheme. settles _;

@@ -21,6 +21,8 @@ use Rattle.looks.specs.declared.looked.Looked.{Looked}
 use Rattle.finds.specs.Find.{findNumber, findWord}
 use Rattle.compare.specs.Compare.{compareNumber, compareOf, compareWord}
 use Rattle.compare.specs.Promises.{CompareWordPromise, SettlesCompared}
+use Rattle.session.specs.Session.{sessionNumber, sessionOf, sessionWord}
+use Rattle.session.specs.Promises.{SessionWordPromise, SettlesWritten}
 use Rattle.hearing.specs.Pairs.{heardAt}
 use Rattle.rooms.specs.Rules.{stateHolds}
 use Rattle.rooms.specs.declared.reply.Reply.{Reply}
@@ -77,6 +79,9 @@ pub record LowByte : Type 0 where
   pub find : (map : List ℕ) (bank location : ℕ) → bits (findWord map bank location) 7 0 ≡ findNumber map bank location
   pub compare : (map old new : List ℕ) (room : ℕ) →
       bits (compareWord (compareOf map old new room)) 7 0 ≡ compareNumber map old new room
+  pub session : (map : List ℕ) (address bank location : ℕ) (bytes : List ℕ) →
+      bits (sessionWord (sessionOf map address bank location bytes)) 7 0
+      ≡ sessionNumber map address bank location (length bytes)
   pub start : (map store image : List ℕ) (address groups : ℕ) → LowReply (startFace map store image address groups)
   pub frame : (map store image bytes : List ℕ) (frame clock : ℕ) →
       LowReply (frameFace map store image bytes frame clock)
@@ -168,6 +173,10 @@ FindFacePromise map bank location r = r ≡ findWord map bank location
 abbrev pub CompareFacePromise : List ℕ → List ℕ → List ℕ → List ℕ → ℕ → List ℕ → Type 0
 CompareFacePromise map old new before r output = CompareWordPromise map old new before r output
 
+-- mf_session; frames are the 13 places of the lent array afterwards
+abbrev pub SessionFacePromise : List ℕ → ℕ → ℕ → ℕ → List ℕ → ℕ → List ℕ → Type 0
+SessionFacePromise map address bank location bytes r frames = SessionWordPromise map address bank location bytes r frames
+
 -- mf_start; state and left are the state's bytes and the store afterwards
 abbrev pub StartFacePromise : List ℕ → List ℕ → List ℕ → ℕ → ℕ → ℕ → List ℕ → List ℕ → Type 0
 StartFacePromise map store image address groups r state left =
@@ -227,6 +236,8 @@ pub record Settled : Type 0 where
   pub look : (map store : List ℕ) (bank location : ℕ) → Settles (LookFacePromise map store bank location)
   pub find : (map : List ℕ) (bank location : ℕ) → Settles (FindFacePromise map bank location)
   pub compare : (map old new before : List ℕ) → SettlesCompared (CompareFacePromise map old new before)
+  pub session : (map : List ℕ) (address bank location : ℕ) (bytes : List ℕ) →
+      SettlesWritten (SessionFacePromise map address bank location bytes)
   pub read : (frame : ℕ) → Settles (ReadFacePromise frame)
   pub write : (word : ℕ) → Settles (WriteFacePromise word)
   pub compose-event : (sort number primary short groups information scheme : ℕ) →

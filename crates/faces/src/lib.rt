@@ -14,4 +14,5 @@ pub use unit_calls::frame_face;
 pub use unit_calls::look_face;
 pub use unit_calls::power_on_face;
 pub use unit_calls::run_face;
+pub use unit_calls::session_face;
 pub use unit_calls::start_face;

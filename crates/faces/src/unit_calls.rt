@@ -5,7 +5,7 @@ ghost use lib.ListN.{length};
 ghost use Rattle.rooms.specs.Rules.{addressHolds};
 ghost use Rattle.faces.specs.Face.{thenNumber};
 ghost use Rattle.faces.specs.Promises.{CheckFacePromise, LookFacePromise, FindFacePromise, StartFacePromise};
-ghost use Rattle.faces.specs.Promises.{CompareFacePromise};
+ghost use Rattle.faces.specs.Promises.{CompareFacePromise, SessionFacePromise};
 ghost use Rattle.faces.specs.Promises.{FrameFacePromise, PowerOnFacePromise, RunFacePromise};
 use crate::answers::look_word;
 use crate::answers::no_look_word;
@@ -62,6 +62,20 @@ pub fn compare_face(map: &[u8], old: &[u8], new: &[u8], output: &mut [u8]) -> u3
         r (now (output .exit)) ⌝ }
 {
     compare::compare_word(map, old, new, output)
+}
+
+// The frames that write a value. They are wider than bytes, as above: 14, and 6 for the address.
+pub fn session_face(
+    map: &[u8],
+    address: u32,
+    bank: u32,
+    location: u32,
+    bytes: &[u8],
+    frames: &mut [u32; 13],
+) -> u32
+    ensures { λ r. ⌜ SessionFacePromise (now (map .entry)) address bank location (now (bytes .entry)) r (now (frames .exit)) ⌝ }
+{
+    session::session_word(map, address, bank, location, bytes, frames)
 }
 
 // A state is made, and the store as a power-on leaves it. The address is wider than a byte, so that it is not cut to

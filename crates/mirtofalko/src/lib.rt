@@ -14,4 +14,5 @@ pub use unit_calls::mf_frame;
 pub use unit_calls::mf_look;
 pub use unit_calls::mf_power_on;
 pub use unit_calls::mf_run;
+pub use unit_calls::mf_session;
 pub use unit_calls::mf_start;

@@ -1,6 +1,7 @@
 // The calls of the unit: on a map, a store, a reset image and a state of 96 bytes.
 ghost use Rattle.faces.specs.Promises.{CheckFacePromise, LookFacePromise, FindFacePromise, StartFacePromise};
-ghost use Rattle.faces.specs.Promises.{CompareFacePromise, FrameFacePromise, PowerOnFacePromise, RunFacePromise};
+ghost use Rattle.faces.specs.Promises.{CompareFacePromise, SessionFacePromise, FrameFacePromise, PowerOnFacePromise};
+ghost use Rattle.faces.specs.Promises.{RunFacePromise};
 
 // The number of map, store and reset image: 7 to 11, or 0.
 #[no_mangle]
@@ -33,6 +34,21 @@ pub extern "C" fn mf_compare(map: &[u8], old: &[u8], new: &[u8], output: &mut [u
         r (now (output .exit)) ⌝ }
 {
     faces::compare_face(map, old, new, output)
+}
+
+// The frames that write a value, in the lent array.
+#[no_mangle]
+pub extern "C" fn mf_session(
+    map: &[u8],
+    address: u32,
+    bank: u32,
+    location: u32,
+    bytes: &[u8],
+    frames: &mut [u32; 13],
+) -> u32
+    ensures { λ r. ⌜ SessionFacePromise (now (map .entry)) address bank location (now (bytes .entry)) r (now (frames .exit)) ⌝ }
+{
+    faces::session_face(map, address, bank, location, bytes, frames)
 }
 
 // A state is made, and the store as a power-on leaves it.

@@ -3,7 +3,7 @@ ghost use Prim.Native.Nat.{_≤_};
 use crate::line::Line;
 
 // The refusals: a number's own sentence, and line 0 for every other number.
-const REFUSALS: [u8; 553] = *b"\
+const REFUSALS: [u8; 579] = *b"\
     no such number\n\
     frame 16,777,216 or more\n\
     reserved address byte\n\
@@ -20,9 +20,10 @@ const REFUSALS: [u8; 553] = *b"\
     trace record unfinished or of unknown kind\n\
     no value begins there\n\
     output room too small for the whole list\n\
+    the value is not writable\n\
 ";
 
-const LAST_REFUSAL: u8 = 15;
+const LAST_REFUSAL: u8 = 16;
 
 // The others. The marks: # is the first number in decimal, @ and $ are the second in decimal and in two hexadecimal
 // digits, % is the third in two hexadecimal digits.

@@ -1,0 +1,10 @@
+pub mod Growing
+pub mod Numbered
+pub mod Meant
+pub mod Leading
+pub mod Stepping
+pub mod Whole
+pub mod Left
+pub mod Ran
+pub mod Shown
+pub mod Cases

@@ -1,0 +1,4 @@
+pub mod Session
+pub mod Running
+pub mod Promises
+pub mod Cases
