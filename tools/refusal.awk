@@ -127,11 +127,21 @@ function session(    a, i, at, place, called) {
     place = sprintf("bank %d, location 0x%02X", a[2], a[3])
     at = -1
     for (i = 0; i < n; i++) if (bank[i] == a[2] && from[i] <= a[3] && a[3] <= end[i]) at = i
-    if (number == 14 && at < 0) end_with("no value begins at " place)
+    if (number == 14 && at < 0) end_with("no value begins at " place ": " why(a[2], a[3]))
     if (number == 14) end_with(sprintf("no value begins at %s: the value there begins at 0x%02X", place, from[at]))
     split("ROM RAM-RO RAM-RW NVM-RO NVM-RW", called, " ")
     if (number == 16) end_with("the value at " place " is not writable: it is " called[kind[at] + 1])
     if (number == 6) end_with(wrong_fields(a[1] > 63, width[at], a[4]))
+}
+
+# why nothing is mapped there, in a map that keeps 9
+function why(its_bank, location,    i, there) {
+    for (i = 0; i < n; i++) {
+        if (bank[i] != its_bank) continue
+        if (from[i] > location) return sprintf("there is a hole, and the next mapped location is 0x%02X", from[i])
+        there = 1
+    }
+    return there ? "that is past the bank's last mapped location" : "the bank is absent"
 }
 
 function wrong_fields(over, has, given,    counts) {

@@ -1,12 +1,12 @@
 -- Running frames, part by part, at any clocks: each step is accepted, and what is written, the state and the store afterwards.
 -- Assumes nothing.
-use Prim.Native.Nat.{ℕ, zero, suc, _+_, _-_, _<_}
+use Prim.Native.Nat.{ℕ, suc, _+_, _-_, _<_}
 use mathlib.Core.Path.{_≡_, refl, ap, sym, subst, _∙_}
 use mathlib.Core.Bool.{Bool}
 use mathlib.Core.List.{List, [], _∷_, _++_, append-assoc, map as each}
 use native.Mathlib.Omega.{arith}
 use native.Mathlib.Nat.{add-zero}
-use lib.ListN.{length, getD, replicate, length-map}
+use lib.ListN.{length, getD, replicate, length-map, List·getD-append}
 use Rattle.laws.specs.Lists.{items}
 use Rattle.laws.specs.Outcome.{Outcome, leaves}
 use Rattle.frames.specs.declared.message.Message.{Message}
@@ -55,11 +55,6 @@ heard-append (m ∷ a) b clocks =
     (same-clocks b _ (later clocks (suc (length a)))
     (λ i. ap clocks (let e : suc (length a + i) ≡ suc (length a) + i = omega arith in e))))
 
-front : (xs ys : List ℕ) (j : ℕ) → j < length xs → getD (xs ++ ys) j 0 ≡ getD xs j 0
-front [] ys j h = absurd (omega arith)
-front (x ∷ xs) ys zero h = refl
-front (x ∷ xs) ys (suc j) h = front xs ys j (omega arith)
-
 -- the places of an array from number i on
 from-place : (clocks : ℕ → ℕ) (frames : List ℕ) (ms : List Message) (i : ℕ)
     → ((j : ℕ) → j < length ms → getD frames (i + j) 0 ≡ getD (each framed ms) j 0)
@@ -82,7 +77,7 @@ heard-is clocks ms =
     from-place clocks (sessionWith ms .frames) ms 0
     (λ j h.
     ap (λ (k : ℕ). getD (sessionWith ms .frames) k 0) (let k : 0 + j ≡ j = omega arith in k)
-    ∙ front (each framed ms) (replicate (13 - length ms) 0) j (omega (arith, length-map ms framed)))
+    ∙ List·getD-append (each framed ms) (replicate (13 - length ms) 0) 0 j (omega (arith, length-map ms framed)))
     ∙ same-clocks ms (later clocks 0) clocks (λ i. ap clocks (let e : 0 + i ≡ i = omega arith in e))
 
 -- ---- what they lead to

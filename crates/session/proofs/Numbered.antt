@@ -167,6 +167,13 @@ pub value-written : (address : ℕ) (r : Record) (bytes : List ℕ) → valueNum
 unfolding valueSession
 value-written address r bytes e = rw e
 
+-- number 0: the session is that of the value's messages
+pub session-is : (map : List ℕ) (address bank location : ℕ) (bytes : List ℕ) (k : Stood map address bank location (length bytes))
+    → sessionOf map address bank location bytes ≡ sessionWith (messagesOf address (k .r) bytes)
+session-is map address bank location bytes k =
+    session-value map address bank location bytes (k .r) (ordered-zero map (k .in-order)) (k .begins)
+    ∙ value-written address (k .r) bytes (value-none address (k .r) (length bytes) (k .may-write) (k .fit))
+
 -- ---- the promises
 
 pub session-numbers : SessionNumbers

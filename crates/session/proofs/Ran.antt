@@ -15,7 +15,6 @@ use Rattle.records.specs.declared.record.Record.{Record}
 use Rattle.records.specs.declared.holder.Found.the-variants.{At}
 use Rattle.records.proofs.Members.{member-fields}
 use Rattle.records.proofs.Locations.{mapped-member}
-use Rattle.records.proofs.Ordered.{ordered-zero}
 use Rattle.banks.specs.Rules.{placed}
 use Rattle.banks.specs.Values.{putValue, lockByte}
 use Rattle.banks.specs.Facts.{Stands, LockRecord}
@@ -31,11 +30,11 @@ use Rattle.unit.specs.Run.{Input, outputOf, Run}
 use Rattle.unit.specs.Bench.{none, answer}
 use Rattle.unit.proofs.Sound.{power-sound}
 use Rattle.session.specs.Session.{setBank, enableWrite, opening, byteWrites, lockWrites, messagesOf, framed}
-use Rattle.session.specs.Session.{sessionWith, sessionOf}
+use Rattle.session.specs.Session.{sessionOf}
 use Rattle.session.specs.Running.{heardOf, storeLeft, StoreLeft, stateLeft, byteAnswers, lockAnswers, answersOf}
 use Rattle.session.specs.Running.{clockAt, Runs, AreBytes, SessionRuns, SessionRunsAtAnyPace}
 use Rattle.session.specs.declared.answer.Session.{Session}
-use Rattle.session.proofs.Numbered.{Stood, stands, begins-in, number-is, session-value, value-none, fit-count, value-written}
+use Rattle.session.proofs.Numbered.{Stood, stands, begins-in, number-is, session-is, fit-count}
 use Rattle.session.proofs.Meant.{set-bank-framed, enable-framed, set-bank-means, enable-means}
 use Rattle.session.proofs.Leading.{later, heardFrom, heard-append, heard-is, Leads, none-leads, one-leads, then-leads}
 use Rattle.session.proofs.Whole.{value-leads}
@@ -96,7 +95,8 @@ one-byte byte h zero = h
 one-byte byte h (suc i) = omega arith
 
 module _ (map store image : List ℕ) (s : State) (address : ℕ) (clocks : ℕ → ℕ) (r : Record) (bytes : List ℕ)
-    (pair : passed (clocks 1) (clocks 2) ≤ 100) (e : powerNumber map store (length image) s ≡ 0) (mine : s .who .address ≡ address) (short : address ≤ 63)
+    (pair : passed (clocks 1) (clocks 2) ≤ 100) (e : powerNumber map store (length image) s ≡ 0)
+    (mine : s .who .address ≡ address) (short : address ≤ 63)
     (member : Member r map) (W : writable r ≡ true) (w : length bytes ≡ r .width) (small : AreBytes bytes) where
   standing : Stands map store (length image)
   standing = power-sound map store (length image) s e .standing
@@ -182,7 +182,8 @@ module _ (map store image : List ℕ) (s : State) (address : ℕ) (clocks : ℕ 
         (sym (lock-value map store₁ p₁ (r .bank) l L) ∙ value-put map store (0x55 ∷ []) l p (L .member) (sym (L .its-width)) .there) in
         let free : unlocked (recordsOf map) store₁ r ≡ true =
         rw (ne-eqb (r .lockable) 0 (λ e. absurd (omega arith)), eq-eqb (lockByte (recordsOf map) store₁ (r .bank)) 0x55 lock) in
-        let p₂ : placed map (length (putValue r bytes store₁)) ≡ true = rw (value-put map store₁ bytes r p₁ member w .as-long) p₁ in
+        let p₂ : placed map (length (putValue r bytes store₁)) ≡ true =
+        rw (value-put map store₁ bytes r p₁ member w .as-long) p₁ in
         let unlocking : (c : ℕ → ℕ) → _ = λ c. lock-leads 0x55 (s .registers .dtr0) c store (omega arith) p (opened .again) in
         let whole : (c : ℕ → ℕ) → _ = λ c. written-leads store₁ 0x03 c p₁ free (unlocking clocks .again) in
         parts-lead map image address r bytes clocks opened unlocking whole
@@ -228,9 +229,7 @@ session-runs-at-any-pace map store image s address bank location bytes e mine sm
     go k b =
         let r = k .r in
         let standing = power-sound map store (length image) s e .standing in
-        let is : sessionOf map address bank location bytes ≡ sessionWith (messagesOf address r bytes) =
-        session-value map address bank location bytes r (ordered-zero map (k .in-order)) (k .begins)
-        ∙ value-written address r bytes (value-none address r (length bytes) (k .may-write) (k .fit)) in
+        let is = session-is map address bank location bytes k in
         let heard = ap (heardOf clocks) is ∙ heard-is clocks (messagesOf address r bytes) in
         let fit = fit-count address r (length bytes) (k .fit) in
         let w = fit .0 in

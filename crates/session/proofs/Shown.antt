@@ -18,7 +18,6 @@ use Rattle.records.specs.declared.record.Record.{Record}
 use Rattle.records.specs.declared.holder.Beginning.{Beginning}
 use Rattle.records.specs.declared.holder.Beginning.the-variants.{Begins}
 use Rattle.records.proofs.Members.{member-fields}
-use Rattle.records.proofs.Ordered.{ordered-zero}
 use Rattle.session.specs.Session.{byteWrites, lockWrites, opening, messagesOf, framed}
 use Rattle.session.specs.Session.{withoutFrames, sessionWith, sessionNumber, sessionOf, sessionWord}
 use Rattle.session.specs.Running.{AreBytes}
@@ -27,8 +26,7 @@ use Rattle.session.specs.Promises.{SessionWordSettled}
 use Rattle.session.specs.declared.answer.Session.{Session}
 use Rattle.session.proofs.Growing.{messages-most}
 use Rattle.session.proofs.Meant.{Framed, set-bank-framed, enable-framed, direct-framed}
-use Rattle.session.proofs.Numbered.{Stood, stands, begins-in, number-is, session-refused, session-value, value-none, fit-count}
-use Rattle.session.proofs.Numbered.{value-written}
+use Rattle.session.proofs.Numbered.{Stood, stands, begins-in, number-is, session-refused, session-is, fit-count}
 
 -- ---- the places
 
@@ -47,28 +45,23 @@ with-places ms h =
 refused-places : (n : ℕ) → Places (withoutFrames n)
 refused-places n = record { as-many = refl; most = omega arith; unused = refl }
 
--- number 0: the session is that of the value's messages
+-- number 0: as many frames as the value has messages
 module _ (map : List ℕ) (address bank location : ℕ) (bytes : List ℕ)
     (e : sessionNumber map address bank location (length bytes) ≡ 0) where
-  pub stood : Stood map address bank location (length bytes)
+  stood : Stood map address bank location (length bytes)
   stood = stands map address bank location (length bytes) e
 
   fields : FieldsHold (stood .r)
   fields =
       member-fields map (stood .in-order) (stood .r) (begins-in map bank location (stood .r) (stood .begins) .0)
 
-  pub session-is : sessionOf map address bank location bytes ≡ sessionWith (messagesOf address (stood .r) bytes)
-  session-is =
-      let k = stood in
-      session-value map address bank location bytes (k .r) (ordered-zero map (k .in-order)) (k .begins)
-      ∙ value-written address (k .r) bytes
-      (value-none address (k .r) (length bytes) (k .may-write) (k .fit))
-
   few : length (messagesOf address (stood .r) bytes) ≤ 13
-  few = messages-most address (stood .r) bytes (omega (arith, fields .most-width, fit-count address (stood .r) (length bytes) (stood .fit) .0))
+  few =
+      let fit = fit-count address (stood .r) (length bytes) (stood .fit) in
+      messages-most address (stood .r) bytes (omega (arith, fields .most-width, fit .0))
 
   written-places : Places (sessionOf map address bank location bytes)
-  written-places = subst Places (sym session-is) (with-places _ few)
+  written-places = subst Places (sym (session-is map address bank location bytes stood)) (with-places _ few)
 
 pub session-places : SessionPlaces
 session-places map address bank location bytes =
@@ -134,7 +127,7 @@ session-reads map address bank location bytes r small e b =
     let fit = fit-count address (k .r) (length bytes) (k .fit) in
     let f = member-fields map (k .in-order) r (begins-in map bank location r b .0) in
     let is : sessionOf map address bank location bytes ≡ sessionWith ms =
-    session-is map address bank location bytes e ∙ ap (λ (x : Record). sessionWith (messagesOf address x bytes)) (sym same) in
+    session-is map address bank location bytes k ∙ ap (λ (x : Record). sessionWith (messagesOf address x bytes)) (sym same) in
     ap (λ (s : Session). each readOf (take (s .count) (s .frames))) is
     ∙ ap (each readOf) (take-at (each framed ms) (replicate (13 - length ms) 0) (length ms) (length-map ms framed))
     ∙ read-back ms

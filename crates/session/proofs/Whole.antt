@@ -108,7 +108,8 @@ module _ (map store image : List ℕ) (s : State) (r : Record)
         ∙ rw (ne-eqb (r .first + length done + 1) (locationsEnd r) (λ z. absurd (omega arith)), k, next .behind b)
 
   -- one write of a session, behind bytes that are staged or none
-  module _ (done : List ℕ) (g : Staged) (at : ℕ) (clocks : ℕ → ℕ) (b : ℕ) (e : powerNumber map store (length image) (open-at s (r .bank) at g) ≡ 0) where
+  module _ (done : List ℕ) (g : Staged) (at : ℕ) (clocks : ℕ → ℕ) (b : ℕ)
+      (e : powerNumber map store (length image) (open-at s (r .bank) at g) ≡ 0) where
     staged : stagedHolds (recordsOf map) store g ≡ true
     staged =
         door-staged (recordsOf map) store (open-at s (r .bank) at g) (power-sound map store (length image) _ e .rules .door)
@@ -148,8 +149,8 @@ module _ (map store image : List ℕ) (s : State) (r : Record)
       let g′ = stagedOf r (length now) (padded now) in
       let first = one-write done g at clocks b e (omega arith) (small 0) g′ store
       (more-write done g next (staged done g at clocks b e) b (omega arith)) in
-      let others = rest-leads bs c now g′ (r .first + length done + 1) (λ i. clocks (suc i)) (some-next now (omega arith)) (λ i. small (suc i))
-      (omega arith) (first .again) in
+      let others = rest-leads bs c now g′ (r .first + length done + 1) (λ i. clocks (suc i)) (some-next now (omega arith))
+      (λ i. small (suc i)) (omega arith) (first .again) in
       subst
       (λ (l : List ℕ).
       Leads map image store (open-at s (r .bank) at g) (heardFrom clocks (byteWrites (r .first + length done) (b ∷ c ∷ bs)))
@@ -158,7 +159,8 @@ module _ (map store image : List ℕ) (s : State) (r : Record)
       (then-leads map image first
       (subst
       (λ (k : ℕ).
-      Leads map image store (open-at s (r .bank) (r .first + length done + 1) g′) (heardFrom (λ i. clocks (suc i)) (byteWrites k (c ∷ bs)))
+      Leads map image store (open-at s (r .bank) (r .first + length done + 1) g′)
+      (heardFrom (λ i. clocks (suc i)) (byteWrites k (c ∷ bs)))
       (byteAnswers (c ∷ bs)) (open-at s (r .bank) (locationsEnd r) noneStaged) (putValue r (now ++ c ∷ bs) store))
       place others))
 
