@@ -1,10 +1,10 @@
 /* Mirtofalko: settings in lighting units (IEC 62386-103), for C99 and later and for C++11 and later.
  *
  *   State of a unit   96 bytes
- *   Stack             at most 2,048 bytes for any call. Measured on x86-64: mf_check 128, mf_start 336, mf_frame 912,
- *                     mf_power_on 880, mf_run 1536, mf_look 160, mf_find 80, mf_compare 224, mf_session 288, mf_read 288,
+ *   Stack             at most 2,048 bytes for any call. Measured on x86-64: mf_check 128, mf_start 336, mf_frame 960,
+ *                     mf_power_on 880, mf_run 1584, mf_look 160, mf_find 80, mf_compare 224, mf_session 288, mf_read 288,
  *                     mf_write 40, mf_compose_event 56, mf_compose_power 24 bytes
- *   Code              about 23,600 bytes with its constants on x86-64
+ *   Code              about 24,000 bytes with its constants on x86-64
  *   Needs             memcpy, and nothing else: no heap, no file, no initialisation
  *   Re-entrant        every call: it keeps nothing of its own, and it returns. One unit is stepped by one thread at a
  *                     time; different units, and calls without a unit, need no lock between them
@@ -39,7 +39,7 @@
 #include <stdint.h>
 
 /* The interface counts up where a call, an answer or the state's bytes change; then you compile anew. */
-#define MF_INTERFACE 7
+#define MF_INTERFACE 8
 #define MF_VERSION "1.0"
 #define MF_VERSION_MAJOR 1
 #define MF_VERSION_MINOR 0
@@ -223,6 +223,8 @@ uint32_t mf_start(const uint8_t *map, size_t map_length, uint8_t *store, size_t 
 
 /* A frame of 24 bits was heard at `clock` (milliseconds, may run over). Any frame may be handed in, whoever it is for.
  * If it answers, send the answer as a backward frame.
+ * Any command for the unit, obeyed or not, shuts write-enable and drops what is staged, but the three writes, the five DTR
+ * commands and QUERY CONTENT DTR0..2 (before interface 8 a command that is not obeyed left it open).
  * 7 to 12, then 1. A reserved frame is no refusal here. */
 uint32_t mf_frame(const uint8_t *map, size_t map_length, uint8_t *store, size_t store_length, const uint8_t *image,
                   size_t image_length, uint8_t state[MF_STATE_BYTES], uint32_t frame, uint32_t clock);

@@ -767,19 +767,40 @@ static uint32_t event_frame(Scenario *s)
     return frame;
 }
 
-static uint32_t reserved_frame(Scenario *s)
+static uint8_t reserved_address(Scenario *s)
 {
     static const uint8_t addresses[14] = {0xE1, 0xE3, 0xE5, 0xE7, 0xE9,
                                           0xEB, 0xED, 0xEF, 0xF1, 0xF3,
                                           0xF5, 0xF7, 0xF9, 0xFB};
+    return pick(s, addresses, 14);
+}
+
+static uint8_t reserved_instance(Scenario *s)
+{
     static const uint8_t instances[10] = {0x40, 0x5F, 0xE0, 0xEF, 0xF0,
                                           0xF7, 0xF8, 0xFA, 0xFB, 0x50};
+    return pick(s, instances, 10);
+}
+
+static uint32_t command_frame(uint8_t address_byte, uint8_t instance_byte,
+                              uint8_t opcode)
+{
+    return (uint32_t)address_byte << 16 | (uint32_t)instance_byte << 8 | opcode;
+}
+
+/* A command for the unit, with an instance byte as told. */
+static uint32_t own_command(Scenario *s, uint8_t instance_byte, uint8_t opcode)
+{
+    return command_frame(matching_address(s), instance_byte, opcode);
+}
+
+static uint32_t reserved_frame(Scenario *s)
+{
     switch (below(s, 4)) {
     case 0:
-        return (uint32_t)pick(s, addresses, 14) << 16 | 0xFE15u;
+        return command_frame(reserved_address(s), 0xFE, 0x15);
     case 1:
-        return (uint32_t)matching_address(s) << 16
-               | (uint32_t)pick(s, instances, 10) << 8 | 0x15u;
+        return own_command(s, reserved_instance(s), 0x15);
     case 2: /* reserved event */
         return 0xC08000u | below(s, 15) << 17 | below(s, 0x8000);
     default: /* power event with a non-zero blank field */
@@ -797,26 +818,95 @@ static uint32_t foreign_frame(Scenario *s)
     return device_frame(foreign_address(s), pick(s, listed, 16));
 }
 
+static bool one_of(uint8_t byte, const uint8_t *bytes, unsigned count)
+{
+    return memchr(bytes, byte, count) != NULL;
+}
+
+/* A device command that is not listed, often one that 000 has. */
+static uint32_t unlisted_device(Scenario *s)
+{
+    static const uint8_t opcodes[16] = {0x00, 0x01, 0x10, 0x12, 0x13, 0x16,
+                                        0x18, 0x1D, 0x20, 0x30, 0x34, 0x35,
+                                        0x39, 0x3D, 0x40, 0x45};
+    uint8_t opcode = any_byte(s);
+    return device(s, one_in(s, 2) || one_of(opcode, listed, 16)
+                         ? pick(s, opcodes, 16)
+                         : opcode);
+}
+
+static uint8_t some_instance(Scenario *s)
+{
+    static const uint8_t from[3] = {0x00, 0x80, 0xC0};
+    unsigned number = below(s, 32);
+    return one_in(s, 4) ? 0xFF : (uint8_t)(pick(s, from, 3) + number);
+}
+
+static uint8_t some_feature(Scenario *s)
+{
+    static const uint8_t from[3] = {0x20, 0xA0, 0x60};
+    static const uint8_t alone[3] = {0xF9, 0xFC, 0xFD};
+    unsigned number = below(s, 32);
+    return one_in(s, 2) ? pick(s, alone, 3)
+                        : (uint8_t)(pick(s, from, 3) + number);
+}
+
+/* Often one that is listed with instance byte 0xFE, or QUERY CONTENT DTR0..2,
+   which keep write-enable there. */
+static uint8_t any_opcode(Scenario *s)
+{
+    switch (below(s, 3)) {
+    case 0:
+        return (uint8_t)(0x36 + below(s, 3));
+    case 1:
+        return pick(s, listed, 16);
+    default:
+        return any_byte(s);
+    }
+}
+
+/* 0xC1 with a first free byte that is not listed, 0xC3, and 0xCB to 0xDF. */
+static uint32_t unlisted_special(Scenario *s, uint8_t second)
+{
+    static const uint8_t with_c1[5] = {0x20, 0x21, 0x30, 0x31, 0x32};
+    static const uint8_t beside[10] = {0x00, 0x01, 0x0B, 0x1F, 0x22,
+                                       0x2F, 0x33, 0x36, 0xFE, 0xFF};
+    uint8_t first = any_byte(s);
+    if (one_in(s, 2)) {
+        bool near = one_in(s, 2) || one_of(first, with_c1, 5);
+        return command_frame(0xC1, near ? pick(s, beside, 10) : first, second);
+    }
+    uint8_t address = one_in(s, 4) ? 0xC3 : (uint8_t)(0xCB + 2 * below(s, 11));
+    return command_frame(address, one_in(s, 2) ? 0xFE : first, second);
+}
+
 /* For the unit, but not listed: device, instance, feature or special. */
 static uint32_t unlisted_frame(Scenario *s)
 {
-    static const uint8_t opcodes[12] = {0x00, 0x10, 0x12, 0x13, 0x16, 0x18,
-                                        0x1D, 0x30, 0x35, 0x3D, 0x40, 0x45};
-    static const uint8_t instances[9] = {0x00, 0x1F, 0x83, 0xC1, 0x25,
-                                         0xA0, 0x60, 0xFC, 0xFF};
-    static const uint8_t specials[10] = {0x00, 0x01, 0x08, 0x1F, 0x22,
-                                         0x2F, 0x33, 0x40, 0xFE, 0xFF};
+    uint8_t opcode = any_opcode(s);
     switch (below(s, 4)) {
     case 0:
-        return device(s, pick(s, opcodes, 12));
+        return unlisted_device(s);
     case 1:
-        return (uint32_t)matching_address(s) << 16
-               | (uint32_t)pick(s, instances, 9) << 8 | pick(s, listed, 16);
+        return own_command(s, some_instance(s), opcode);
     case 2:
-        return 0xC10000u | (uint32_t)pick(s, specials, 10) << 8 | any_byte(s);
-    default: /* 0xC3, and 0xCB to 0xDF */
-        return (one_in(s, 4) ? 0xC30000u : 0xCB0000u + (below(s, 11) << 17))
-               | below(s, 0x10000);
+        return own_command(s, some_feature(s), opcode);
+    default:
+        return unlisted_special(s, opcode);
+    }
+}
+
+/* The same frame reserved or foreign: its address byte reserved or another
+   unit's, or its instance byte reserved. */
+static uint32_t not_for_the_unit(Scenario *s, uint32_t frame)
+{
+    switch (below(s, 4)) {
+    case 0:
+        return (uint32_t)reserved_address(s) << 16 | (frame & 0xFFFF);
+    case 1:
+        return own_command(s, reserved_instance(s), (uint8_t)(frame & 0xFF));
+    default:
+        return (uint32_t)foreign_address(s) << 16 | (frame & 0xFFFF);
     }
 }
 
@@ -834,7 +924,7 @@ static void keep_between(Scenario *s)
         send(s, foreign_frame(s));
         break;
     case 3:
-        send(s, unlisted_frame(s));
+        send(s, not_for_the_unit(s, unlisted_frame(s)));
         break;
     case 4:
         send(s, device(s, (uint8_t)(0x36 + below(s, 3))));
@@ -869,12 +959,16 @@ static void close_between(Scenario *s)
     static const uint8_t singles[6] = {0x33, 0x3C, 0x41, 0x42, 0x43, 0x44};
     static const uint8_t halves[7] = {0x11, 0x14, 0x15, 0x19,
                                       0x1A, 0x1B, 0x1C};
-    switch (below(s, 4)) {
+    switch (below(s, 6)) {
     case 0:
         send(s, device(s, pick(s, halves, 7))); /* a lone first half */
         break;
     case 1:
         power_on(s);
+        break;
+    case 2:
+    case 3:
+        send(s, unlisted_frame(s));
         break;
     default:
         send(s, device(s, pick(s, singles, 6)));
@@ -1038,6 +1132,46 @@ static void cut_writing(Scenario *s)
         interrupt(s, value);
         write_byte(s, value->first, any_byte(s));
     }
+    look_after(s, value);
+}
+
+/* A command that is not listed, sometimes twice, or the same frame reserved or
+   foreign: the one closes write-enable, the other leaves it. */
+static void meet_the_door(Scenario *s)
+{
+    uint32_t frame = unlisted_frame(s);
+    if (one_in(s, 3)) {
+        frame = not_for_the_unit(s, frame);
+    }
+    send(s, frame);
+    if (one_in(s, 4)) {
+        send(s, frame);
+    }
+}
+
+/* A writing that meets such a frame right after the ENABLE pair, before its
+   first byte, between two bytes or after the last, and is gone on with. */
+static void door_writing(Scenario *s)
+{
+    const Value *value = target_value(s);
+    unsigned count = below(s, value->width + 1u);
+    if (one_in(s, 4)) {
+        count = 0;
+        set_dtr1(s, value->bank);
+        enable(s);
+        meet_the_door(s);
+        set_dtr0(s, value->first);
+    } else {
+        open_bank(s, value, 0x55);
+        set_dtr0(s, value->first);
+        write_bytes(s, value, count, 99);
+        meet_the_door(s);
+    }
+    for (unsigned i = count; i < value->width; i++) {
+        write_byte(s, (uint8_t)(value->first + i), any_byte(s));
+    }
+    send(s, 0xC50200u | (one_in(s, 2) ? 0xFFu : any_byte(s)));
+    send(s, device(s, 0x36));
     look_after(s, value);
 }
 
@@ -1424,6 +1558,7 @@ static void play(Scenario *s, unsigned target)
     static const Episode episodes[] = {
         whole_writing, whole_writing,  whole_writing,  whole_writing,
         cut_writing,   cut_writing,    cut_writing,    cut_writing,
+        door_writing,  door_writing,   door_writing,
         short_writing, short_writing,  lock_sequence,  lock_sequence,
         odd_writes,    reset_sequence, reset_sequence, latch_sequence,
         latch_sequence, latch_sequence, read_sweep,    group_change,

@@ -1803,6 +1803,8 @@ static const Reached reached_states[] = {
      {0xC70202, 0x0BFE15, 0x0BFE15, 0xC12055}},
     {0, 0, 0, 0, 0x55, "an unlocked bank, closed",
      {0xC70202, 0x0BFE15, 0x0BFE15, 0xC12055, 0x0BFE33}},
+    {0, 0, 0, 0, 0x55, "an unlocked bank, closed while a byte was staged",
+     {0xC70202, 0x0BFE15, 0x0BFE15, 0xC12055, 0xC12001, 0x0BFE30}},
     {0, 1, 0, 0, 0x54, "a lock byte 0x54",
      {0xC70202, 0x0BFE15, 0x0BFE15, 0xC12054}},
     {0, 0, 0, 1, 0xFF, "a latch held", {0xC70203, 0xFFFE3C}},
@@ -2120,12 +2122,11 @@ static void what_keeps_write_enable(void)
 {
     static const uint32_t keep[] = {
         0xC13003, 0xC13102, 0xC13200, 0xC70200, 0xC90002, 0x0BFE36, 0x0BFE37,
-        0x0BFE38, 0x828805, 0xE1FE15, 0x0DFE15, 0x0BFE10, 0xC13300, 0xCB0000,
-        0x0BFF15, 0x0B0015, 0xFDFE15, 0xFEE001};
+        0x0BFE38, 0x828805, 0xE1FE15, 0x0DFE15, 0xFDFE15, 0xFEE001};
     static const uint32_t close[] = {
         0x0BFE11, 0x0BFE14, 0x0BFE15, 0x0BFE19, 0x0BFE1A, 0x0BFE1B, 0x0BFE1C,
         0x0BFE33, 0x0BFE3C, 0x0BFE41, 0x0BFE42, 0x0BFE43, 0x0BFE44, 0xFFFE33,
-        0x85FE33};
+        0x85FE33, 0x0BFE10, 0xC13300, 0xCB0000, 0x0BFF15, 0x0B0015};
     for (size_t i = 0; i < sizeof keep / sizeof keep[0]; i++) {
         char what[40];
         (void)snprintf(what, sizeof what, "%06X keeps", (unsigned)keep[i]);
@@ -2137,6 +2138,459 @@ static void what_keeps_write_enable(void)
         expect(!staging_after(close[i]), what);
     }
 }
+
+/* ---- any command closes the door ---- */
+
+/* Write-enable open, a byte of three staged, a latch held, each DTR set. */
+static Bench open_bench(void)
+{
+    Bench bench = wide_bench();
+    (void)step(&bench, 0xC70203);
+    (void)step(&bench, 0xFFFE3C);
+    (void)step(&bench, 0xC13277);
+    enable_at(&bench, 2, 11);
+    (void)step(&bench, 0xC12001);
+    return bench;
+}
+
+/* The same state but closed: closing drops staging. */
+static Unit closed_unit(const Unit *open)
+{
+    Unit closed = *open;
+    closed.write_enable = 0;
+    closed.staged = 0;
+    closed.staged_bank = 0;
+    closed.staged_first = 0;
+    memset(closed.staged_bytes, 0, sizeof closed.staged_bytes);
+    return closed;
+}
+
+/* A frame without an answer that leaves the store and such a state. */
+static bool leaves(const Bench *before, uint32_t frame, const Unit *unit)
+{
+    Bench bench = *before;
+    return step(&bench, frame) == 0 && same_state(&bench.unit, unit)
+           && stores(&bench, 0, sizeof bench.store, before->store);
+}
+
+/* A frame that clears the waiting one, and does nothing else but close, if it
+   closes. */
+static bool only_closes_or_leaves(uint32_t frame, bool closes)
+{
+    Bench open = open_bench();
+    Unit closed = closed_unit(&open.unit);
+    Bench waiting = open;
+    (void)step(&waiting, 0x0BFE15);
+    return leaves(&open, frame, closes ? &closed : &open.unit)
+           && waiting.unit.waiting == 1 && leaves(&waiting, frame, &closed);
+}
+
+/* A command for the unit that closes write-enable and isn't obeyed. */
+static bool only_closes(uint32_t frame)
+{
+    return only_closes_or_leaves(frame, true);
+}
+
+/* A frame that is no command for the unit. */
+static bool leaves_open(uint32_t frame)
+{
+    return only_closes_or_leaves(frame, false);
+}
+
+/* Whether a frame leaves anything open: closed, nothing is staged either. */
+static bool open_after(uint32_t frame)
+{
+    Bench bench = open_bench();
+    (void)step(&bench, frame);
+    return bench.unit.write_enable == 1 || bench.unit.staged != 0;
+}
+
+/* A frame, and what it is. */
+typedef struct Named {
+    uint32_t frame;
+    const char *what;
+} Named;
+
+static const Named closing[] = {
+    {0x0BFE30, "QUERY DEVICE STATUS"},
+    {0x0BFE00, "IDENTIFY DEVICE"},
+    {0x0BFE10, "RESET"},
+    {0x0BFEFF, "an opcode that isn't defined"},
+    {0x85FE30, "a device command by group"},
+    {0xFFFE30, "a device command by broadcast"},
+    {0x0B0036, "a command to an instance number"},
+    {0x0B9F36, "a command to an instance group"},
+    {0x0BC136, "a command to an instance type"},
+    {0x0BFF36, "a command to all instances"},
+    {0xFFFF80, "a command to all instances by broadcast"},
+    {0x0B2036, "a command to a feature at a number"},
+    {0x0BBF36, "a command to a feature at a group"},
+    {0x0B6036, "a command to a feature at a type"},
+    {0x0BF936, "a feature broadcast"},
+    {0x0BFC36, "a command to a device feature"},
+    {0x0BFD36, "a command to a feature at all instances"},
+    {0x850036, "an instance command by group"},
+    {0xFFFC36, "a feature command by broadcast"},
+    {0xC10000, "special 0xC1 0x00"},
+    {0xC10B00, "special 0xC1 0x0B"},
+    {0xC12200, "special 0xC1 0x22"},
+    {0xC13300, "special 0xC1 0x33"},
+    {0xC1FE36, "special 0xC1 0xFE"},
+    {0xC30000, "special 0xC3"},
+    {0xC3FE36, "special 0xC3 with the bytes of QUERY CONTENT DTR0"},
+    {0xCB2055, "special 0xCB with the bytes of a write"},
+    {0xDFFFFF, "special 0xDF"},
+};
+
+static const Named not_closing[] = {
+    {0xE1FE30, "a reserved address byte"},
+    {0xFBFE10, "the last reserved address byte"},
+    {0xF9FF36, "a reserved address byte, to instances"},
+    {0x0B4030, "a reserved instance byte"},
+    {0xFFFB36, "a reserved instance byte by broadcast"},
+    {0x85F830, "a reserved instance byte by group"},
+    {0x0A0D55, "an event by short address and type"},
+    {0x0AFFFF, "an event by short address and number"},
+    {0x8E1000, "an event by device group and type"},
+    {0x828805, "an event by type and number"},
+    {0xFE0001, "an event by instance group and type"},
+    {0xC08000, "a reserved event"},
+    {0xFEE000, "a power event"},
+    {0xFEF1C5, "a power event of group 3, short 5"},
+    {0xFEE001, "a malformed power event"},
+    {0x0DFE30, "a device command for another address"},
+    {0x83FE30, "a device command for another group"},
+    {0x0DFE15, "an ENABLE for another address"},
+    {0x0DFE36, "a QUERY CONTENT DTR0 for another address"},
+    {0x0D0036, "an instance command for another address"},
+    {0x0DFC36, "a feature command for another address"},
+    {0xFDFE30, "broadcast unaddressed, to a unit with an address"},
+    {0xFDFE36, "QUERY CONTENT DTR0 unaddressed, to such a unit"},
+    {0xFDFF36, "an unaddressed instance command, to such a unit"},
+};
+
+/* A frame between the ENABLE pair and a write at once after it. True if the
+   write isn't executed: no answer, DTR0 stays, the store as it was. */
+static bool write_is_lost(uint32_t frame)
+{
+    Bench bench = wide_bench();
+    enable_at(&bench, 2, 7);
+    Bench before = bench;
+    (void)step(&bench, frame);
+    return step(&bench, 0xC12099) == 0 && step(&bench, 0xC12199) == 0
+           && step(&bench, 0xC50799) == 0 && bench.unit.dtr0 == 7
+           && stores(&bench, 0, sizeof bench.store, before.store);
+}
+
+/* The same with a DIRECT WRITE; true if it is executed. */
+static bool write_goes_on(uint32_t frame)
+{
+    Bench bench = wide_bench();
+    enable_at(&bench, 2, 7);
+    (void)step(&bench, frame);
+    return step(&bench, 0xC50799) == answered(0x99) && bench.unit.dtr0 == 8
+           && bench.store[9] == 0x99;
+}
+
+static void commands_that_close(void)
+{
+    static const uint8_t pairs[7] = {0x11, 0x14, 0x15, 0x19, 0x1A, 0x1B, 0x1C};
+    static const uint8_t queries[5] = {0x33, 0x41, 0x42, 0x43, 0x44};
+    unsigned unlike = 0;
+    for (size_t i = 0; i < sizeof closing / sizeof closing[0]; i++) {
+        char what[80];
+        (void)snprintf(what, sizeof what, "closes and no more: %s",
+                       closing[i].what);
+        expect(only_closes(closing[i].frame), what);
+        (void)snprintf(what, sizeof what, "a write lost after %s",
+                       closing[i].what);
+        expect(write_is_lost(closing[i].frame), what);
+    }
+    for (size_t i = 0; i < 7; i++) {
+        unlike += write_is_lost(0x0BFE00u | pairs[i]) ? 0 : 1;
+    }
+    expect(unlike == 0, "a write lost after a lone first half");
+    for (size_t i = 0; i < 5; i++) {
+        unlike += write_is_lost(0x0BFE00u | queries[i]) ? 0 : 1;
+    }
+    expect(unlike == 0, "a write lost after a query");
+    expect(!open_after(0x0BFE3C), "READ MEMORY LOCATION closes");
+    expect(!write_goes_on(0x0BFE3C), "a write lost after it");
+}
+
+/* The three writes, the five DTR commands, QUERY CONTENT DTR0..2. */
+static void eleven_that_keep(void)
+{
+    static const uint32_t eleven[11] = {
+        0xC12011, 0xC12111, 0xC50711, 0xC13007, 0xC13102, 0xC13255,
+        0xC70207, 0xC95502, 0x0BFE36, 0x0BFE37, 0x0BFE38};
+    for (size_t i = 0; i < 11; i++) {
+        char what[40];
+        (void)snprintf(what, sizeof what, "%06X keeps, a write goes on",
+                       (unsigned)eleven[i]);
+        expect(open_after(eleven[i]) && write_goes_on(eleven[i]), what);
+    }
+    expect(write_goes_on(0x85FE36) && write_goes_on(0xFFFE37),
+           "QUERY CONTENT keeps by group and by broadcast");
+}
+
+static void frames_that_leave_it_open(void)
+{
+    Bench bench = open_bench();
+    Unit open = bench.unit;
+    for (size_t i = 0; i < sizeof not_closing / sizeof not_closing[0]; i++) {
+        char what[80];
+        (void)snprintf(what, sizeof what, "leaves all but a waiting frame: %s",
+                       not_closing[i].what);
+        expect(leaves_open(not_closing[i].frame), what);
+        (void)snprintf(what, sizeof what, "a write goes on after %s",
+                       not_closing[i].what);
+        expect(write_goes_on(not_closing[i].frame), what);
+    }
+    expect(step(&bench, 0x1000000) == FRAME_TOO_LARGE
+               && same_state(&bench.unit, &open),
+           "a refused frame leaves it open");
+}
+
+/* Broadcast unaddressed to a unit without an address is for the unit. */
+static void unaddressed_units(void)
+{
+    static const uint32_t frames[4] = {0xFDFE30, 0xFDFF36, 0xFDFC36, 0xFDFE33};
+    unsigned unlike = 0;
+    for (size_t i = 0; i < 4; i++) {
+        Bench bench = wide_bench();
+        (void)start_bench(&bench, 255, 0);
+        enable_at(&bench, 2, 7);
+        (void)step(&bench, frames[i]);
+        if (bench.unit.write_enable != 0 || step(&bench, 0xC12099) != 0) {
+            unlike++;
+        }
+    }
+    expect(unlike == 0, "unaddressed, to a unit without an address: closes");
+    Bench bench = wide_bench();
+    (void)start_bench(&bench, 255, 0);
+    enable_at(&bench, 2, 7);
+    expect(step(&bench, 0xFDFE36) == answered(7)
+               && step(&bench, 0xC12099) == answered(0x99),
+           "QUERY CONTENT DTR0 unaddressed to such a unit keeps");
+    enable_at(&bench, 2, 7);
+    (void)step(&bench, 0x0BFE30);
+    expect(step(&bench, 0xC12088) == answered(0x88),
+           "a command by short address leaves a unit without one open");
+}
+
+/* A command that 000 wants twice: three of it do what one does; an ENABLE
+   before it is cleared, and one after it needs its own two halves. */
+static bool never_waits(uint32_t frame)
+{
+    Bench bench = open_bench();
+    Unit closed = closed_unit(&bench.unit);
+    bool holds = true;
+    for (unsigned i = 0; i < 3; i++) {
+        holds = leaves(&bench, frame, &closed) && holds;
+        (void)step(&bench, frame);
+    }
+    (void)step(&bench, 0x0BFE15);
+    holds = holds && bench.unit.write_enable == 0 && bench.unit.waiting == 1
+            && leaves(&bench, frame, &closed);
+    (void)step(&bench, frame);
+    (void)step(&bench, 0x0BFE15);
+    holds = holds && bench.unit.write_enable == 0 && bench.unit.waiting == 1;
+    (void)step(&bench, 0x0BFE15);
+    return holds && bench.unit.write_enable == 1 && bench.unit.waiting == 0;
+}
+
+static void unlisted_twice(void)
+{
+    static const Named twice[] = {
+        {0x0BFE00, "IDENTIFY DEVICE"},
+        {0x0BFE01, "RESET POWER CYCLE SEEN"},
+        {0x0BFE10, "RESET"},
+        {0x0BFE16, "ENABLE APPLICATION CONTROLLER"},
+        {0x0BFE1D, "START QUIESCENT MODE"},
+        {0x0B0062, "an instance configuration"},
+        {0x0BFF15, "ENABLE WRITE MEMORY at all instances"},
+        {0xC1FE15, "special 0xC1 with the bytes of ENABLE"},
+    };
+    for (size_t i = 0; i < sizeof twice / sizeof twice[0]; i++) {
+        char what[80];
+        (void)snprintf(what, sizeof what, "closes and never waits: %s",
+                       twice[i].what);
+        expect(never_waits(twice[i].frame), what);
+    }
+}
+
+/* All 256 opcodes with instance byte 0xFE to the short address: three keep,
+   13 close and are obeyed, the others only close. */
+static void every_opcode(void)
+{
+    static const uint8_t obeyed[13] = {0x11, 0x14, 0x15, 0x19, 0x1A,
+                                       0x1B, 0x1C, 0x33, 0x3C, 0x41,
+                                       0x42, 0x43, 0x44};
+    unsigned kept = 0;
+    unsigned closed = 0;
+    unsigned unlike = 0;
+    for (unsigned opcode = 0; opcode < 256; opcode++) {
+        uint32_t frame = 0x0BFE00u | opcode;
+        bool keeps = opcode >= 0x36 && opcode <= 0x38;
+        unlike += open_after(frame) == keeps ? 0 : 1;
+        kept += keeps ? 1 : 0;
+        if (!keeps && memchr(obeyed, (int)opcode, sizeof obeyed) == NULL) {
+            unlike += only_closes(frame) ? 0 : 1;
+            closed++;
+        }
+    }
+    expect(unlike == 0, "every opcode to the device");
+    expect(kept == 3 && closed == 240, "of them three keep, 240 only close");
+}
+
+static bool instance_reserved(unsigned byte)
+{
+    return (byte >= 0x40 && byte <= 0x5F) || (byte >= 0xE0 && byte <= 0xF8)
+           || byte == 0xFA || byte == 0xFB;
+}
+
+/* All 256 instance bytes with the opcode of QUERY CONTENT DTR0: 0xFE keeps,
+   the reserved ones leave it, the others close. */
+static void every_instance_byte(void)
+{
+    Bench open = open_bench();
+    Unit before = open.unit;
+    unsigned left = 0;
+    unsigned unlike = 0;
+    for (unsigned byte = 0; byte < 256; byte++) {
+        uint32_t frame = 0x0B0036u | byte << 8;
+        bool reserved = instance_reserved(byte);
+        left += reserved ? 1 : 0;
+        if (byte != 0xFE) {
+            unlike += only_closes_or_leaves(frame, !reserved) ? 0 : 1;
+        }
+    }
+    expect(unlike == 0, "every instance byte");
+    expect(left == 59, "of them 59 reserved ones leave it");
+    expect(step(&open, 0x0BFE36) == answered(12)
+               && same_state(&open.unit, &before),
+           "0xFE answers and leaves all");
+}
+
+/* All 256 address bytes with QUERY DEVICE STATUS. Even ones are events; 0xC5
+   is a write here, 0xC7 and 0xC9 set DTRs. */
+static void every_address_byte(void)
+{
+    unsigned closed = 0;
+    unsigned unlike = 0;
+    for (unsigned byte = 0; byte < 256; byte++) {
+        uint32_t frame = byte << 16 | 0xFE30u;
+        bool keeps = byte == 0xC5 || byte == 0xC7 || byte == 0xC9;
+        bool special = (byte & 0xE1) == 0xC1;
+        bool closes = !keeps
+                      && (special || byte == 0x0B || byte == 0x85
+                          || byte == 0xA1 || byte == 0xFF);
+        closed += closes ? 1 : 0;
+        unlike += open_after(frame) == !closes ? 0 : 1;
+        if (!keeps) {
+            unlike += only_closes_or_leaves(frame, closes) ? 0 : 1;
+        }
+    }
+    expect(unlike == 0, "every address byte");
+    expect(closed == 17, "of them 13 special ones and four others close");
+}
+
+/* All 16 special address bytes with all 256 first bytes: eight of the eleven
+   are among them. */
+static void every_special(void)
+{
+    static const uint8_t with_c1[5] = {0x20, 0x21, 0x30, 0x31, 0x32};
+    unsigned kept = 0;
+    unsigned unlike = 0;
+    for (unsigned i = 0; i < 16 * 256; i++) {
+        unsigned byte = 0xC1 + i / 256 * 2;
+        uint32_t frame = byte << 16 | i % 256 << 8 | 0x36u;
+        bool keeps = byte == 0xC5 || byte == 0xC7 || byte == 0xC9
+                     || (byte == 0xC1
+                         && memchr(with_c1, (int)(i % 256), 5) != NULL);
+        kept += keeps ? 1 : 0;
+        unlike += open_after(frame) == keeps ? 0 : 1;
+        if (!keeps) {
+            unlike += only_closes(frame) ? 0 : 1;
+        }
+    }
+    expect(unlike == 0, "every special command");
+    expect(kept == 5 + 3 * 256, "of them 773 keep");
+}
+
+/* A writing of a value of some width with a frame before one of its bytes, or
+   after the last. True if the value is stored whole. */
+static bool whole_around(uint8_t width, uint8_t place, uint32_t frame)
+{
+    Bench bench = sheet_with_value(width, 4, 1);
+    (void)start_bench(&bench, 5, 0x00010004);
+    enable_at(&bench, 2, 2);
+    (void)step(&bench, 0xC12055);
+    for (uint8_t i = 0; i <= width; i++) {
+        if (i == place) {
+            (void)step(&bench, frame);
+        }
+        if (i < width) {
+            (void)step(&bench, 0xC120A0u + i);
+        }
+    }
+    return stores(&bench, 2, width,
+                  (const uint8_t *)"\xA0\xA1\xA2\xA3\xA4\xA5\xA6\xA7");
+}
+
+/* Before how many of the 36 bytes of eight values, one of each width, a frame
+   leaves the writing whole. */
+static unsigned left_whole(uint32_t frame)
+{
+    unsigned count = 0;
+    for (uint8_t width = 1; width <= 8; width++) {
+        for (uint8_t place = 0; place < width; place++) {
+            count += whole_around(width, place, frame) ? 1 : 0;
+        }
+    }
+    return count;
+}
+
+/* Closing cuts a writing at each of its places but the end. */
+static void writings_cut(void)
+{
+    unsigned unlike = 0;
+    for (size_t i = 0; i < sizeof closing / sizeof closing[0]; i++) {
+        bool whole = whole_around(8, 8, closing[i].frame);
+        unlike += left_whole(closing[i].frame) == 0 && whole ? 0 : 1;
+    }
+    expect(unlike == 0, "each closing frame cuts a writing at each place");
+    for (size_t i = 0; i < sizeof not_closing / sizeof not_closing[0]; i++) {
+        unlike += left_whole(not_closing[i].frame) == 36 ? 0 : 1;
+    }
+    expect(unlike == 0, "each other frame leaves it whole at each place");
+}
+
+/* After the last byte the value is stored, but its bank isn't locked again. */
+static void closed_after_the_last(void)
+{
+    Bench bench = sheet_bench();
+    enable_at(&bench, 2, 2);
+    (void)step(&bench, 0xC12055);
+    for (uint32_t i = 0; i < 4; i++) {
+        (void)step(&bench, 0xC120A0u + i);
+    }
+    (void)step(&bench, 0x0BFE30);
+    expect(step(&bench, 0xC502FF) == 0 && bench.unit.dtr0 == 7
+               && stores(&bench, 1, 5,
+                         (const uint8_t *)"\x55\xA0\xA1\xA2\xA3"),
+           "closed after the last byte: the value whole, the lock byte 0x55");
+    (void)step(&bench, 0xC13003);
+    pair(&bench, 0xFFFE15);
+    (void)step(&bench, 0xC120B0);
+    (void)step(&bench, 0x0BFE30);
+    pair(&bench, 0xFFFE15);
+    expect(step(&bench, 0xC120B1) == 0 && bench.unit.staged == 0,
+           "opened again: what was staged before is gone");
+}
+
+/* ---- writes, reads, resets ---- */
 
 static void writes_not_executed(void)
 {
@@ -3304,6 +3758,9 @@ int main(void)
         idle_state_rules, waiting_state_rules, staged_state_rules,
         latched_state_rules, order_of_step, packed_states,
         pairs_from_the_left, frames_between_halves, what_keeps_write_enable,
+        commands_that_close, eleven_that_keep, frames_that_leave_it_open,
+        unaddressed_units, unlisted_twice, every_opcode, every_instance_byte,
+        every_address_byte, every_special, writings_cut, closed_after_the_last,
         writes_not_executed, writes_not_taken, staging_again, locks,
         banks_apart, every_width, reads, latch_and_writes, resets, addresses, groups,
         registers, trace_files, trace_records, written_records, any_input,

@@ -4,8 +4,10 @@
 
 #include <inttypes.h>
 #include <stdlib.h>
+#include <string.h>
 
 #include "files.h"
+#include "frames.h"
 
 uint64_t second_tally[TALLY_COUNT];
 
@@ -20,6 +22,15 @@ static uint64_t between_event;
 static uint64_t between_reserved;
 static uint64_t between_other;
 static uint64_t clock_ran_over;
+static uint64_t closed_by_device; /* an open write-enable, by what came */
+static uint64_t closed_by_instance;
+static uint64_t closed_by_feature;
+static uint64_t closed_by_special;
+static uint64_t dropped_by_unlisted;
+static uint64_t left_by_reserved;
+static uint64_t left_by_event;
+static uint64_t left_by_foreign;
+static uint64_t left_by_unaddressed;
 static uint64_t frame_steps;
 static uint64_t answers;
 
@@ -115,23 +126,73 @@ static void tally_halves(const Unit *before, const TraceRecord *record,
     }
 }
 
+/* An unlisted command for the unit that closed an open write-enable. */
+static void tally_closed(const Unit *before, uint32_t frame)
+{
+    uint64_t word = second_read(frame);
+    uint64_t target_kind = word >> 24 & 0xFF;
+    dropped_by_unlisted += before->staged > 0 ? 1 : 0;
+    if ((word >> 48 & 0xFF) == SPECIAL) {
+        closed_by_special++;
+    } else if (target_kind == DEVICE) {
+        closed_by_device++;
+    } else if (target_kind <= INSTANCE_TYPE
+               || target_kind == INSTANCE_BROADCAST) {
+        closed_by_instance++;
+    } else {
+        closed_by_feature++;
+    }
+}
+
+/* The library has counted such a frame since the counts were kept. */
+static bool counted_since(const uint64_t *kept, unsigned what)
+{
+    return second_tally[what] > kept[what];
+}
+
+/* What became of an open write-enable by a frame that is not obeyed. A
+   broadcast unaddressed one is foreign where the unit has an address. */
+static void tally_open(const Unit *before, const Unit *after, uint32_t frame,
+                       const uint64_t *kept)
+{
+    uint64_t address_kind = second_read(frame) >> 40 & 0xFF;
+    if (after->write_enable == 0) {
+        if (counted_since(kept, TALLY_UNLISTED)) {
+            tally_closed(before, frame);
+        }
+        return;
+    }
+    if (counted_since(kept, TALLY_RESERVED)) {
+        left_by_reserved++;
+    } else if (counted_since(kept, TALLY_EVENT)) {
+        left_by_event++;
+    } else if (counted_since(kept, TALLY_FOREIGN)) {
+        left_by_foreign++;
+        left_by_unaddressed += address_kind == UNADDRESSED ? 1 : 0;
+    }
+}
+
 static void tally_record(Files *files, Unit *unit, const TraceRecord *record,
                          Broken *broken)
 {
     Unit before = *unit;
-    uint64_t dropped = second_tally[TALLY_STAGING_DROPPED];
+    uint64_t kept[TALLY_COUNT];
+    memcpy(kept, second_tally, sizeof kept);
     uint32_t result = obey_record(files, unit, record);
     refusals[result & 0x0F]++;
     answers += result >> 8 & 1;
-    if (second_tally[TALLY_STAGING_DROPPED] > dropped
+    if (counted_since(kept, TALLY_STAGING_DROPPED)
         || (record->kind == POWER_ON_RECORD && before.staged > 0)) {
         tally_cut(files, &before);
     }
-    if (record->kind == FRAME_RECORD) {
-        frame_steps++;
-        tally_halves(&before, record, broken);
-    } else {
+    if (record->kind != FRAME_RECORD) {
         broken->set = false;
+        return;
+    }
+    frame_steps++;
+    tally_halves(&before, record, broken);
+    if (before.write_enable == 1) {
+        tally_open(&before, unit, record->frame, kept);
     }
 }
 
@@ -175,6 +236,25 @@ static void print_line(const char *name, uint64_t count)
     printf("%s %" PRIu64 "\n", name, count);
 }
 
+/* What became of an open write-enable. */
+static void print_open(void)
+{
+    print_line("write-enable-closed-by-an-unlisted-device-command",
+               closed_by_device);
+    print_line("write-enable-closed-by-an-unlisted-instance-command",
+               closed_by_instance);
+    print_line("write-enable-closed-by-an-unlisted-feature-command",
+               closed_by_feature);
+    print_line("write-enable-closed-by-an-unlisted-special-command",
+               closed_by_special);
+    print_line("staging-dropped-by-an-unlisted-command", dropped_by_unlisted);
+    print_line("write-enable-left-open-by-a-reserved-frame", left_by_reserved);
+    print_line("write-enable-left-open-by-an-event", left_by_event);
+    print_line("write-enable-left-open-by-a-foreign-command", left_by_foreign);
+    print_line("write-enable-left-open-by-an-unaddressed-command",
+               left_by_unaddressed);
+}
+
 static void print_all(void)
 {
     static const unsigned possible[7] = {6, 7, 8, 9, 10, 11, 13};
@@ -199,6 +279,7 @@ static void print_all(void)
     print_line("pair-broken-by-a-command", between_other);
     print_line("second-half-too-late", late_halves);
     print_line("pair-while-the-clock-runs-over", clock_ran_over);
+    print_open();
     print_line("answers", answers);
     print_line("frame-steps", frame_steps);
     print_line("total-steps", frame_steps + second_tally[TALLY_POWER_ON]);

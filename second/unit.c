@@ -102,8 +102,8 @@ static bool needs_pair(Listed command)
     return command <= REMOVE_FROM_16_31;
 }
 
-/* Write-enable keeps through the three writes, the five DTR commands and
-   QUERY CONTENT DTR0..2. */
+/* The eleven that keep write-enable: the three writes, the five DTR commands
+   and QUERY CONTENT DTR0..2. */
 static bool keeps_write_enable(Listed command)
 {
     return (command >= WRITE_MEMORY_LOCATION && command <= DTR2_DTR1)
@@ -365,11 +365,6 @@ static uint32_t obey(const Lent *lent, Unit *unit, const Message *message,
                      bool pair, uint32_t frame, uint32_t clock)
 {
     Listed command = listed_command(message);
-    if (!keeps_write_enable(command)) {
-        /* Any other listed command for the unit closes it, on its first
-           hearing too. */
-        close_write_enable(unit);
-    }
     if (!needs_pair(command)) {
         return execute_single(lent, unit, command, message);
     }
@@ -401,8 +396,13 @@ static uint32_t step(const Lent *lent, Unit *unit, uint32_t frame,
         TALLY(TALLY_FOREIGN);
         return 0;
     }
+    if (!keeps_write_enable(listed_command(&message))) {
+        /* Every command for the unit closes it, except the eleven that keep
+           it, on its first hearing too. */
+        close_write_enable(unit);
+    }
     if (listed_command(&message) == NOT_LISTED) {
-        TALLY(TALLY_UNLISTED); /* read, not obeyed */
+        TALLY(TALLY_UNLISTED); /* read, not obeyed; it never waits */
         return 0;
     }
     return obey(lent, unit, &message, pair, frame, clock);

@@ -66,6 +66,7 @@ enum Seen {
     EMPTY_MAP, MAP_OF_64, EMPTY_STORE, STORE_OF_4096, BANK_0, BANK_199, LAST_0XFE,
     ANSWERED, STORED, STORED_WHOLE, RESET, WAITED, OPENED, CLOSED, STAGES, DROPPED, LATCHES, LATCH_ENDED,
     NEW_ADDRESS, NEW_GROUPS,
+    INSTANCE_CLOSED, UNLISTED_CLOSED, SPECIAL_CLOSED, UNLISTED_DROPPED, RESERVED_KEPT, FOREIGN_KEPT, EVENT_KEPT,
     RUN_WHOLE, RUN_OF_NONE, RUN_BY_ROOM, RUN_ENDED,
     START_NOT_CUT, LOOK_NOT_CUT, FIND_BANK_NOT_CUT, FIND_LOCATION_NOT_CUT, FIND_MAP_FIRST,
     FOUND_FIRST, FOUND_INSIDE, FOUND_ABSENT, FOUND_HOLE, HOLE_BEFORE_ALL, FOUND_PAST, PAST_BELOW_A_BANK,
@@ -99,6 +100,13 @@ static const char *const seen_names[SEEN] = {
     [LATCH_ENDED] = "frames that ended a latch",
     [NEW_ADDRESS] = "frames that changed the address",
     [NEW_GROUPS] = "frames that changed the groups",
+    [INSTANCE_CLOSED] = "instance and feature commands that closed write-enable",
+    [UNLISTED_CLOSED] = "unlisted device commands that closed it",
+    [SPECIAL_CLOSED] = "unlisted special commands that closed it",
+    [UNLISTED_DROPPED] = "of these three, such that dropped staged bytes",
+    [RESERVED_KEPT] = "reserved frames that left it open",
+    [FOREIGN_KEPT] = "commands for others that left it open",
+    [EVENT_KEPT] = "events that left it open",
     [RUN_WHOLE] = "runs of all their records",
     [RUN_OF_NONE] = "runs without a whole record, or without room",
     [RUN_BY_ROOM] = "runs that ended where the output was full",
@@ -163,6 +171,24 @@ static void see_unit(Lent *l) {
     see(EMPTY_MAP, l->map_length == 0), see(MAP_OF_64, l->map_length == 512);
     see(EMPTY_STORE, l->store_length == 0), see(STORE_OF_4096, l->store_length == 4096);
     see(BANK_0, first), see(BANK_199, last), see(LAST_0XFE, end);
+}
+
+static bool is_listed(uint32_t opcode) {
+    return (opcode >= 0x36 && opcode <= 0x38) || (opcode >= 0x41 && opcode <= 0x44) || (opcode >= 0x19 && opcode <= 0x1C)
+        || opcode == 0x11 || opcode == 0x14 || opcode == 0x15 || opcode == 0x33 || opcode == 0x3C;
+}
+
+/* What met an open door, by the frame's bytes: a listed special command keeps it, so one that closed it is not listed. */
+static void see_door(const uint8_t *b, const uint8_t *a, uint32_t frame) {
+    uint32_t instance = frame >> 8 & 0xFF;
+    bool open = b[17] == 1, closed = open && a[17] == 0, event = (frame >> 16 & 1) == 0;
+    bool special = !event && frame >> 21 == 6, addressed = !event && !special, reserved = mf_number(mf_read(frame)) != 0;
+    bool unlisted = special || instance != 0xFE || !is_listed(frame & 0xFF);
+    see(INSTANCE_CLOSED, closed && addressed && instance != 0xFE);
+    see(UNLISTED_CLOSED, closed && addressed && instance == 0xFE && unlisted), see(SPECIAL_CLOSED, closed && special);
+    see(UNLISTED_DROPPED, closed && unlisted && b[18] > 0);
+    see(RESERVED_KEPT, open && !closed && reserved), see(EVENT_KEPT, open && !closed && event && !reserved);
+    see(FOREIGN_KEPT, open && !closed && addressed && !reserved && unlisted);
 }
 
 /* By the state's bytes (mirtofalko.h). */
@@ -241,7 +267,7 @@ static void frame_call(const Lent *l, Kept *kept, uint32_t frame, uint32_t clock
     uint32_t theirs = second_frame_bytes(l->map, l->map_length, other.store, l->store_length, l->image,
                                          l->image_length, other.state, frame, clock);
     compare(STEP, ours, theirs, &mine, &other, kept);
-    if (mf_number(ours) == 0) see_frame(kept, &mine, ours);
+    if (mf_number(ours) == 0) see_frame(kept, &mine, ours), see_door(kept->state, mine.state, frame);
     *kept = mine;
 }
 

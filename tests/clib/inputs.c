@@ -118,7 +118,7 @@ uint32_t any_frame(const Kept *kept) {
     case 0: return any() >> 8;
     case 1: return any() >> 8 & 0xFEFFFF;
     case 2: return once_in(4) ? any() : once_in(9) ? 0xFFFFFF + below(2) : 0xFEE000 | below(0x2000);
-    case 3: return command(kept, byte());
+    case 3: return address_byte(kept) << 16 | (once_in(2) ? 0xFE : byte()) << 8 | byte();
     case 4: return special(0xC1 + 2 * below(6), once_in(2) ? 0x20 + below(2) : byte(), byte());
     case 5: return special(0xC1, 0x30 + below(3), once_in(3) ? 0xFF : byte());
     default: return command(kept, opcodes[below(sizeof opcodes)]);

@@ -54,7 +54,7 @@ use Rattle.hearing.proofs.PairRule.{pair-clocks, no-pair}
 use Rattle.hearing.proofs.Addressing.{for-the-unit, special-for-all}
 use Rattle.hearing.proofs.Codes.{code-stands}
 use Rattle.hearing.proofs.Foreign.{event-foreign, reserved-foreign}
-use Rattle.hearing.proofs.Closing.{eleven-keep, closes-nothing}
+use Rattle.hearing.proofs.Closing.{eleven-keep, closes-exactly}
 use Rattle.hearing.proofs.Exactly.{listed-exactly}
 use Rattle.rooms.proofs.Promises.{short-takes-address}
 use Rattle.rooms.proofs.Codes.{one-due}
@@ -64,6 +64,7 @@ use Rattle.unit.proofs.Accepted.{calls-power-on, store-kept, accepted-again, ru
 use Rattle.unit.proofs.Foreign.{foreign-passes-by, event-breaks-pair}
 use Rattle.unit.proofs.Leaving.{frames-leave}
 use Rattle.unit.proofs.Worked.{worked-hold, two-banks-hold}
+use Rattle.unit.proofs.Closing.{every-command-closes, closing-holds}
 use Rattle.unit.proofs.Numbers.{calls-reply, calls-refused, calls-accepted, calls-settled}
 use Rattle.unit.proofs.Bench.{sheet-holds as unit-sheet-holds}
 use Rattle.unit.proofs.Resets.{reset-due, step-resets}
@@ -71,6 +72,7 @@ use Rattle.history.proofs.Demand.{unit-demand, unit-read-only, lock-by-grammar,
 use Rattle.history.proofs.Bench.{p11-writing, p12-no-writing}
 use Rattle.history.proofs.Wrong.{wrong-ones-fail}
 use Rattle.history.proofs.Follow.{others-follow}
+use Rattle.history.proofs.Through.{lets-through-exactly}
 use Rattle.history.proofs.Use.{always-whole, refused-exactly, refused-change-nothing}
 use Rattle.tracing.proofs.Bench.{bench-files, bench-traces}
 use Rattle.tracing.proofs.Starts.{files-numbered, one-byte-more, files-settled}
@@ -192,7 +194,8 @@ commands-obeyed = record {
   short-takes-address = short-takes-address;
   foreign-passes-by = foreign-passes-by;
   eleven-keep = eleven-keep;
-  others-close-nothing = closes-nothing;
+  closes-exactly = closes-exactly;
+  every-command-closes = every-command-closes;
   frames-leave = frames-leave;
   one-value-changes = one-value-changes;
   last-byte-puts-the-value = write-value;
@@ -210,6 +213,7 @@ commands-obeyed = record {
   reset-locks = fill-locks;
   worked-runs = worked-hold;
   two-bank-runs = two-banks-hold;
+  closing-runs = closing-holds;
 }
 
 complete-writing : CompleteWriting
@@ -220,6 +224,7 @@ complete-writing = record {
   refused-exactly = refused-exactly;
   refused-inputs-change-nothing = refused-change-nothing;
   unit-read-only = unit-read-only;
+  lets-through-exactly = lets-through-exactly;
   lock-by-grammar = lock-by-grammar;
   history-in-order = in-order;
   p11-has-a-writing = p11-writing;

@@ -46,7 +46,7 @@ use Rattle.memory.specs.Reset.{FillResets, ResetSettled}
 use Rattle.hearing.specs.declared.heard.Who.{Who}
 use Rattle.hearing.specs.declared.heard.Heard.{Heard}
 use Rattle.hearing.specs.Promises.{PairClocks, NoPair, ForTheUnit, SpecialForAll, CodeStands, EventForeign}
-use Rattle.hearing.specs.Promises.{ReservedForeign, ElevenKeep, ClosesNothing, ListedExactly}
+use Rattle.hearing.specs.Promises.{ReservedForeign, ElevenKeep, ClosesExactly, ListedExactly}
 use Rattle.rooms.specs.Promises.{ShortTakesAddress}
 use Rattle.rooms.specs.Codes.{OneDue}
 use Rattle.numbers.specs.Cases.{StateCases, StartCases}
@@ -55,12 +55,14 @@ use Rattle.unit.specs.Keeping.{CallsPowerOn, CallsKeepStore, CallsAcceptedAgain
 use Rattle.unit.specs.Keeping.{StepResets}
 use Rattle.unit.specs.Leaving.{ForeignPassesBy, FramesLeave, EventBreaksPair}
 use Rattle.unit.specs.Worked.{WorkedHold, TwoBanksHold}
+use Rattle.unit.specs.Closing.{EveryCommandCloses, ClosingHolds}
 use Rattle.unit.specs.Promises.{CallsReply, CallsRefused, CallsAccepted, CallsSettled}
 use Rattle.unit.specs.Bench.{SheetHolds as UnitSheetHolds}
 use Rattle.history.specs.Machine.{Machine, unitMachine}
 use Rattle.history.specs.Demand.{Demand, ReadOnlyStay, LockByGrammar, InOrder, OthersFollow}
 use Rattle.history.specs.Bench.{P11Writing, P12NoWriting}
 use Rattle.history.specs.Wrong.{WrongOnesFail}
+use Rattle.history.specs.Through.{LetsThroughExactly}
 use Rattle.history.specs.Use.{AlwaysWhole, RefusedExactly, RefusedChangeNothing}
 use Rattle.tracing.specs.Bench.{BenchFiles, BenchTraces}
 use Rattle.tracing.specs.Promises.{FilesNumbered, OneByteMore, FourEach, ThirteenEnds, OneCheck, OneAfterOther}
@@ -251,8 +253,11 @@ pub record CommandsObeyed : Type 0 where
   pub foreign-passes-by : ForeignPassesBy
   -- "Write-enable keeps through the three writes, the five DTR commands and QUERY CONTENT DTR0..2"
   pub eleven-keep : ElevenKeep
-  -- "Any other listed command for the unit closes it": a frame that is none closes nothing
-  pub others-close-nothing : ClosesNothing
+  -- "From now on every command for the unit closes it, except the eleven that keep it: any device, instance or feature
+  -- command, and any special one. Reserved bytes still don't" (paper 02, Item 6)
+  pub closes-exactly : (who : Who) (f : ℕ) → ClosesExactly who f
+  -- and of the unit's step: the door behind any frame
+  pub every-command-closes : EveryCommandCloses
   -- what each command leaves alone; "Writes and resets don't touch it" (the latch)
   pub frames-leave : FramesLeave
   -- in a frame step that is no reset at most one value changes
@@ -288,6 +293,8 @@ pub record CommandsObeyed : Type 0 where
   pub worked-runs : WorkedHold
   -- runs on a map with banks 1 and 2, in one table
   pub two-bank-runs : TwoBanksHold
+  -- runs with one frame more while write-enable is open, in one table
+  pub closing-runs : ClosingHolds
 
 -- ---- Grammar of a complete writing: demand 3
 
@@ -304,6 +311,9 @@ pub record CompleteWriting : Type 1 where
   pub refused-inputs-change-nothing : RefusedChangeNothing unitMachine
   -- beside it: a value that is not writable is what it was before the start
   pub unit-read-only : ReadOnlyStay unitMachine
+  -- "The grammar of demand 3 lets through, besides those eleven, only events, reserved frames and commands not for this
+  -- unit" (paper 02, Item 6)
+  pub lets-through-exactly : LetsThroughExactly
   -- "the lock byte by this same grammar"
   pub lock-by-grammar : LockByGrammar
   -- "worked out from start, map and list": a history is the list of a run, the newest first

@@ -31,7 +31,7 @@ use Rattle.hearing.proofs.Codes.{Only, device-code, special-code, only-
 -- the table of listed commands
 
 -- what a code asks for
-abbrev asked : Code → Meaning
+abbrev pub asked : Code → Meaning
 asked none = Meaning.NotObeyed
 asked (device o) = deviceCommand o
 asked (special a i o) = specialCommand ((a - 0xC1) / 2) i o
@@ -72,7 +72,7 @@ module _ (x : Meaning) where
   in-right (y ∷ xs) ys i = List·Memᴰ·tail (in-right xs ys i)
 
 -- not obeyed, or one of the table
-abbrev Known : ℕ → ℕ → Meaning → Type 0
+abbrev pub Known : ℕ → ℕ → Meaning → Type 0
 Known i o m = (m ≡ Meaning.NotObeyed) ⊎ List·Memᴰ m (listedWith i o)
 
 abbrev means : List Row → List Meaning
@@ -137,7 +137,7 @@ module _ (who : Who) (f : ℕ) where
   special-means (Reading.Got (Message.Power g h)) e u a i o s = absurd u
   special-means (Reading.Refused n) e u a i o s = absurd u
 
-  asks-means : (c : Code) → Asks who f c → meaningOf who f ≡ asked c
+  pub asks-means : (c : Code) → Asks who f c → meaningOf who f ≡ asked c
   unfolding meaningOf
   asks-means none k = absurd k
   asks-means (device o) k = device-means (readOf f) refl (k .0) o (k .1)
@@ -173,10 +173,10 @@ module _ (who : Who) (f : ℕ) where
   means-asks m k (Reading.Refused n) e q = absurd (false≢true (no-code m Meaning.Foreign k q))
 
   -- a command for the unit is known, and no other frame is
-  abbrev Ours : Reading → Type 0
+  abbrev pub Ours : Reading → Type 0
   Ours r = ToUnit who r ⊎ IsSpecial r
 
-  ours-known : (r : Reading) → readOf f ≡ r → Ours r → Known (bits f 15 8) (bits f 7 0) (readingMeaning who r)
+  pub ours-known : (r : Reading) → readOf f ≡ r → Ours r → Known (bits f 15 8) (bits f 7 0) (readingMeaning who r)
   ours-known (Reading.Got (Message.Command a t o)) e (inl u) =
       rw u
       (⊎-elim

@@ -73,6 +73,22 @@ listedWith first second =
     ∷ AtOnce (SetDtrs 1 first second)
     ∷ []
 
+-- the eleven that keep write-enable: QUERY CONTENT DTR0..2, the three writes, the five DTR commands
+abbrev pub elevenWith : (first second : ℕ) → List Code
+elevenWith first second =
+    device 0x36
+    ∷ device 0x37
+    ∷ device 0x38
+    ∷ special 0xC1 0x20 second
+    ∷ special 0xC1 0x21 second
+    ∷ special 0xC1 0x30 second
+    ∷ special 0xC1 0x31 second
+    ∷ special 0xC1 0x32 second
+    ∷ special 0xC5 first second
+    ∷ special 0xC7 first second
+    ∷ special 0xC9 first second
+    ∷ []
+
 -- what is foreign, or not obeyed, is no listed command
 abbrev pub codeOf : Meaning → Code
 codeOf Foreign = none

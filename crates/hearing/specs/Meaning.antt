@@ -137,9 +137,10 @@ keeps (DirectWriteMemory offset byte) = true
 keeps (SetDtr k byte) = true
 keeps (SetDtrs k high low) = true
 
--- any other listed command for the unit closes it, on its first hearing too
+-- every other command for the unit closes it, obeyed or not, on its first hearing too: any device, instance or feature
+-- command, and any special one. Reserved bytes still don't (paper 02, Item 6)
 abbrev pub closes : Meaning → Bool
 closes Foreign = false
-closes NotObeyed = false
+closes NotObeyed = true
 closes (AtOnce once) = not (keeps once)
 closes (NeedsPair twice) = true

@@ -11,7 +11,7 @@ use Rattle.frames.specs.Read.{readOf}
 use Rattle.frames.specs.declared.message.Address.{Address}
 use Rattle.frames.specs.declared.message.Message.{Message}
 use Rattle.frames.specs.declared.message.Reading.{Reading}
-use Rattle.hearing.specs.Codes.{Code, none, device, special, listedWith, codeOf, StandsIn}
+use Rattle.hearing.specs.Codes.{Code, none, device, special, listedWith, elevenWith, codeOf, StandsIn}
 use Rattle.hearing.specs.Meaning.{Row, isFor, deviceRows, firstRows, otherRows, meaningOf, closes}
 use Rattle.hearing.specs.Pairs.{heardAt, passed, completes, noneWaits, waitsFor}
 use Rattle.hearing.specs.declared.heard.Heard.{Heard}
@@ -79,10 +79,6 @@ SpecialForAll =
     (who other : Who) (f number first second : ℕ) → readOf f ≡ Reading.Got (Message.Special number first second) →
     meaningOf who f ≡ meaningOf other f
 
--- what is foreign or not obeyed closes nothing
-abbrev pub ClosesNothing : Type 0
-ClosesNothing = (closes Meaning.Foreign ≡ false) × (closes Meaning.NotObeyed ≡ false)
-
 -- the codes of those rows that keep write-enable
 abbrev pub keepers : List Row → List Code
 keepers [] = []
@@ -92,12 +88,21 @@ keepers (r ∷ rs) = if closes (r .means) then keepers rs else codeOf (r .means)
 abbrev pub ElevenKeep : Type 0
 ElevenKeep =
     (first second : ℕ) →
-    keepers (deviceRows ++ firstRows second ++ otherRows first second)
-    ≡ device 0x36 ∷ device 0x37 ∷ device 0x38
-    ∷ special 0xC1 0x20 second ∷ special 0xC1 0x21 second
-    ∷ special 0xC1 0x30 second ∷ special 0xC1 0x31 second ∷ special 0xC1 0x32 second
-    ∷ special 0xC5 first second ∷ special 0xC7 first second ∷ special 0xC9 first second
-    ∷ []
+    keepers (deviceRows ++ firstRows second ++ otherRows first second) ≡ elevenWith first second
+
+-- a command for the unit, or a special one
+abbrev pub CommandFor : Who → ℕ → Type 0
+CommandFor who f = ToUnit who (readOf f) ⊎ IsSpecial (readOf f)
+
+-- one of the eleven: for the unit, and with that command's bytes
+abbrev pub OneOfEleven : Who → ℕ → Type 0
+OneOfEleven who f = (c : Code) × List·Memᴰ c (elevenWith (bits f 15 8) (bits f 7 0)) × Asks who f c
+
+-- every command for the unit closes write-enable, except the eleven that keep it: any device, instance or feature
+-- command, and any special one; reserved bytes still don't. Both answers, each exactly if
+pub record ClosesExactly (who : Who) (f : ℕ) : Type 0 where
+  pub closing : (closes (meaningOf who f) ≡ true) ↔ (CommandFor who f × (OneOfEleven who f → ⊥))
+  pub keeping : (closes (meaningOf who f) ≡ false) ↔ (OneOfEleven who f ⊎ (CommandFor who f → ⊥))
 
 -- the bench sheet's clocks: 0 and 100 a pair, 101 none; 4,294,967,250 then 50: difference 96, a pair
 pub record PairClocks (frame : ℕ) : Type 0 where

@@ -86,7 +86,7 @@ pub fn closes(meaning: Meaning) -> bool
 {
     match meaning {
         Meaning::Foreign => false,
-        Meaning::NotObeyed => false,
+        Meaning::NotObeyed => true,
         Meaning::AtOnce(once) => !keeps(once),
         Meaning::NeedsPair(_) => true,
     }

@@ -5,6 +5,7 @@ pub mod Invariant
 pub mod Growing
 pub mod Past
 pub mod Enabled
+pub mod Through
 pub mod Placed
 pub mod Selecting
 pub mod Valued

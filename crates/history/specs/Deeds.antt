@@ -29,8 +29,8 @@ pub data Deed : Type 0 where
   opens : Deed  -- it ends an ENABLE pair for the unit
   resets : ℕ → Deed  -- it ends a RESET MEMORY BANK pair for the unit, with this DTR0
   puts : ℕ → ℕ → ℕ → Deed  -- an executed write: bank, location, byte
-  spares : Deed  -- any other that keeps write-enable or is no listed command for this unit
-  breaks : Deed  -- any other listed command for this unit, a lone first half too
+  spares : Deed  -- any other that keeps write-enable or is no command for this unit
+  breaks : Deed  -- any other command for this unit, obeyed or not, a lone first half too
   powers : Deed  -- no frame: a power-on
 
 -- a write executes only if enabled and bank DTR1 is mapped
@@ -66,11 +66,11 @@ deedBy rs k pair other (AtOnce once) = onceDeed rs k other once
 deedBy rs k pair other (NeedsPair twice) = if pair then pairDeed k other twice else other
 
 -- the one place where the grammar says what keeps write-enable: a frame that is no ENABLE pair, no RESET pair and no
--- executed write breaks the writing exactly if it is a listed command for this unit that closes write-enable
+-- executed write breaks the writing exactly if it is a command for this unit that closes write-enable
 unfoldable pub deedOf : List Record → Context → Bool → Meaning → Deed
 deedOf rs k pair m = deedBy rs k pair (if closes m then breaks else spares) m
 
--- it keeps write-enable or is no listed command for this unit
+-- it keeps write-enable or is no command for this unit; which frames these are: specs/Through.antt
 unfoldable pub keeping : Deed → Bool
 keeping opens = false
 keeping (resets dtr0) = false

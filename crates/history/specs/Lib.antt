@@ -3,6 +3,7 @@ pub mod Deeds
 pub mod Context
 pub mod Lock
 pub mod Writing
+pub mod Through
 pub mod Value
 pub mod Machine
 pub mod Demand

@@ -37,8 +37,8 @@ module _ (rs : List Record) (who : Who) where
     -- an ENABLE pair for the unit, that ends at input number `pair-end`
     pub pair-end : ℕ
     pub pair : deedAt h pair-end ≡ opens
-    -- from it to the last write only frames that keep write-enable or are no listed command for this unit
-    -- (a lone first half for this unit is a listed one, and so ends the writing)
+    -- from it to the last write only frames that keep write-enable or are no command for this unit (a lone first half
+    -- for this unit is one, and so ends the writing): paper 02, Item 6
     pub only : (i : ℕ) → pair-end < i → i < length h → keeping (deedAt h i) ≡ true
     -- among them n executed writes, the last of them the newest input
     pub n-bytes : length bytes ≡ v .width

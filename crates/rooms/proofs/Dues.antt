@@ -81,7 +81,7 @@ module _ (rs : List Record) (s : State) (heard : Heard) where
     by-meaning : (m : Meaning) → meaningOf (s .who) (heard .frame) ≡ m → P (closes m) (dueBy rs s heard m)
     unfolding dueBy
     by-meaning Foreign e = c .nothing false
-    by-meaning NotObeyed e = c .nothing false
+    by-meaning NotObeyed e = c .nothing true
     by-meaning (AtOnce once) e = at-once once
     by-meaning (NeedsPair twice) e =
         if-by (P true) (completes (s .waiting) heard) (λ t. paired twice) (λ t. c .waits (ap needsPair e))

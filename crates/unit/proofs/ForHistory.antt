@@ -130,8 +130,8 @@ module _ (rs : List Record) (store image : List ℕ) (s : State) (x : Heard) whe
   unfolding frameStep dueOf dueBy done cleared quiet withWaiting
   foreign-leaves e = rw e
 
-  pub not-obeyed-leaves : Means NotObeyed → Leaves (s .who) (s .registers) (s .door) store
-  unfolding frameStep dueOf dueBy done cleared quiet withWaiting
+  pub not-obeyed-leaves : Means NotObeyed → Leaves (s .who) (s .registers) shutDoor store
+  unfolding frameStep dueOf dueBy done cleared quiet withWaiting withDoor
   not-obeyed-leaves e = rw e
 
   pub missing-leaves : Means (AtOnce QueryMissingShortAddress) → Leaves (s .who) (s .registers) shutDoor store

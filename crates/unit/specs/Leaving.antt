@@ -1,4 +1,4 @@
--- What a frame leaves alone: a foreign one, one between two halves, and each listed command.
+-- What a frame leaves alone: a foreign one, one between two halves, and each command.
 -- Paper 01, "Commands obeyed". Proved in proofs/Foreign.antt and proofs/Leaving.antt.
 -- Assumes nothing.
 use Prim.Native.Nat.{ℕ, _+_}

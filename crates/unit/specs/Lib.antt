@@ -5,3 +5,4 @@ pub mod Leaving
 pub mod Keeping
 pub mod Bench
 pub mod Worked
+pub mod Closing

@@ -141,10 +141,11 @@ abbrev reservedBetween : Line
 reservedBetween =
     runs (sent (0x0BFE15 ∷ 0xE10000 ∷ 0x0BFE15 ∷ 0xC70202 ∷ 0xC12055 ∷ [])) (none ++ quietly ++ none) benchStore
 
--- a command for others, and one that is not listed, leave write-enable open
+-- a command for others leaves write-enable open, and one for the unit that is not listed closes it
 abbrev others : Line
 others =
-    runs (sent (opened ++ 0x0DFE3C ∷ 0x0BFE10 ∷ 0xC12055 ∷ [])) (quietly ++ none ++ none ++ answer 0x55)
+    runs (sent (opened ++ 0x0DFE3C ∷ 0xC12055 ∷ 0x0BFE10 ∷ 0xC502FF ∷ []))
+    (quietly ++ none ++ answer 0x55 ++ none ++ none)
     (holding 0x55 0x00 0x00 0x00 0x64)
 
 -- RESET MEMORY BANK 2, then of each bank, then of a bank that is locked
