@@ -173,7 +173,7 @@ module _ (who : Who) (f : ℕ) where
   means-asks m k (Reading.Refused n) e q = absurd (false≢true (no-code m Meaning.Foreign k q))
 
   -- a command for the unit is known, and no other frame is
-  abbrev pub Ours : Reading → Type 0
+  abbrev Ours : Reading → Type 0
   Ours r = ToUnit who r ⊎ IsSpecial r
 
   pub ours-known : (r : Reading) → readOf f ≡ r → Ours r → Known (bits f 15 8) (bits f 7 0) (readingMeaning who r)

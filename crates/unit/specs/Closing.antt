@@ -35,7 +35,7 @@ pub record ClosesDoor (rs : List Record) (store image : List ℕ) (s : State) (h
       ↔ ((dueOf rs s heard ≡ Opens) ⊎ ((s .door .enabled ≡ true)
       × (OneOfEleven (s .who) (heard .frame) ⊎ (CommandFor (s .who) (heard .frame) → ⊥))))
 
--- for every map, store, image and state, and every frame
+-- for every map, store, image and state, accepted or not, and every frame
 abbrev pub EveryCommandCloses : Type 0
 EveryCommandCloses = (rs : List Record) (store image : List ℕ) (s : State) (heard : Heard)
     → ClosesDoor rs store image s heard
@@ -68,7 +68,7 @@ meetings =
     -- QUERY DEVICE STATUS, to short 5 and by broadcast; opcodes that 000 leaves undefined
     closed (0x0BFE30 ∷ [])
     ∷ closed (0xFFFE30 ∷ [])
-    ∷ closed (0x0BFE01 ∷ [])
+    ∷ closed (0x0BFE02 ∷ [])
     ∷ closed (0x0BFEFF ∷ [])
     -- unlisted send-twice commands, IDENTIFY DEVICE and RESET: once and twice
     ∷ closed (0x0BFE00 ∷ [])
