@@ -293,7 +293,7 @@ pub record CommandsObeyed : Type 0 where
   pub worked-runs : WorkedHold
   -- runs on a map with banks 1 and 2, in one table
   pub two-bank-runs : TwoBanksHold
-  -- runs with one frame more while write-enable is open, in one table
+  -- runs with one to three frames more while write-enable is open, in one table
   pub closing-runs : ClosingHolds
 
 -- ---- Grammar of a complete writing: demand 3
