@@ -3,8 +3,8 @@
  *   State of a unit   96 bytes
  *   Stack             at most 2,048 bytes for any call. Measured on x86-64: mf_check 128, mf_start 336, mf_frame 960,
  *                     mf_power_on 880, mf_run 1584, mf_look 160, mf_find 80, mf_compare 224, mf_session 288, mf_read 288,
- *                     mf_write 40, mf_compose_event 56, mf_compose_power 24 bytes
- *   Code              about 24,000 bytes with its constants on x86-64
+ *                     mf_write 40, mf_compose_event 56, mf_compose_power 24, mf_census 448 bytes
+ *   Code              about 25,000 bytes with its constants on x86-64
  *   Needs             memcpy, and nothing else: no heap, no file, no initialisation
  *   Re-entrant        every call: it keeps nothing of its own, and it returns. One unit is stepped by one thread at a
  *                     time; different units, and calls without a unit, need no lock between them
@@ -19,13 +19,13 @@
  * `mf_unit` (below) holds them side by side, so that a call names the unit only.
  *
  * Every call is proved: for all inputs its answer, the state and the store are what the definitions say. The
- * definitions stand in crates/faces/specs, those of mf_find in crates/finds/specs, of mf_compare in crates/compare/specs and
- * of mf_session in crates/session/specs.
+ * definitions stand in crates/faces/specs, those of mf_find in crates/finds/specs, of mf_compare in crates/compare/specs,
+ * of mf_session in crates/session/specs and of mf_census in crates/census/specs.
  *
  * What no call can check, and you must see to:
  *   - Each pointer is good for as many bytes as the length beside it says, and is not null, also for the length 0.
- *   - What a call changes (state, output, frames, and the store where it is not const) overlaps nothing else that is lent to
- *     that call. Two inputs that are only read may be one buffer.
+ *   - What a call changes (state, output, frames, counts, and the store where it is not const) overlaps nothing else that is
+ *     lent to that call. Two inputs that are only read may be one buffer.
  *   - A state comes from an accepted mf_start. Zeros are a state too, that of a unit with address 0: a refused start
  *     leaves them, so do not step it; and a state that was never started answers as address 0.
  *
@@ -39,7 +39,7 @@
 #include <stdint.h>
 
 /* The interface counts up where a call, an answer or the state's bytes change; then you compile anew. */
-#define MF_INTERFACE 8
+#define MF_INTERFACE 9
 #define MF_VERSION "1.0"
 #define MF_VERSION_MAJOR 1
 #define MF_VERSION_MINOR 0
@@ -49,8 +49,9 @@ extern "C" {
 #endif
 
 /* The numbers. 0 is no refusal. A refused call changes neither state nor store nor mf_compare's output; only a refused start
- * writes a state, all zeros, and a refused session its 13 places, all zeros. Where several rules are broken the first in the
- * call's order gives its number. mf_text says each. */
+ * writes a state, all zeros, and a refused session its 13 places, all zeros. 13 is no refusal of the records before it: those
+ * that mf_run answered and mf_census counted stand. Where several rules are broken the first in the call's order gives its
+ * number. mf_text says each. */
 enum {
     MF_OK = 0,
     MF_BAD_FRAME = 1,          /* frame 16,777,216 or more */
@@ -73,11 +74,12 @@ enum {
 
 enum {
     MF_STATE_BYTES = 96,  /* a state */
-    MF_RECORD_BYTES = 8,  /* a record of mf_run: clock (4, high byte first), kind, frame (3, high byte first) */
+    MF_RECORD_BYTES = 8,  /* a trace record: clock (4, high byte first), kind, frame (3, high byte first) */
     MF_OUTPUT_BYTES = 4,  /* what mf_run writes for it: number, answered 0/1, answer or 0, zero */
     MF_DIFFERENCE_BYTES = 24, /* what mf_compare writes for a value: bank, first location, width, kind, four zeros, its old
                                * bytes and its new bytes, each 8, zero filled at the end */
     MF_SESSION_FRAMES = 13, /* the places that mf_session writes */
+    MF_COUNTS = 16,       /* the counts that mf_census adds to: MF_CLASSES of frames, and MF_POWER_ONS */
     MF_NO_ADDRESS = 255,  /* the address of a unit that has none */
     MF_NO_GROUP = 255     /* the primary group of an instance that has none */
 };
@@ -85,7 +87,7 @@ enum {
 /* Kinds of value in the map. Only MF_RAM_RW and MF_NVM_RW are writable or may be lockable. */
 enum { MF_ROM = 0, MF_RAM_RO = 1, MF_RAM_RW = 2, MF_NVM_RO = 3, MF_NVM_RW = 4 };
 
-/* Kinds of record for mf_run. Clock and frame of a power-on are not looked at. */
+/* Kinds of record for mf_run and mf_census. Clock and frame of a power-on are not looked at. */
 enum { MF_RECORD_FRAME = 0, MF_RECORD_POWER_ON = 1 };
 
 /* Kinds of message. An event of scheme s is MF_EVENT + s. */
@@ -117,6 +119,23 @@ enum {
     MF_FEATURE_AT_INSTANCES = 9, /* feature at instance broadcast */
     MF_AT_DEVICE = 10,
     MF_AT_INSTANCES = 11        /* instance broadcast */
+};
+
+/* What mf_census counts, by its place in the counts: the frames in MF_CLASSES classes, and the power-on records apart. */
+enum {
+    MF_COUNT_SHORT = 0,             /* commands that are well formed, by address kind: to a short address */
+    MF_COUNT_GROUP = 1,             /* to a device group */
+    MF_COUNT_UNADDRESSED = 2,       /* to all without an address */
+    MF_COUNT_ALL = 3,               /* to all */
+    MF_COUNT_SPECIAL = 4,           /* special commands */
+    MF_COUNT_BAD_ADDRESS_BYTE = 5,  /* reserved address byte */
+    MF_COUNT_BAD_INSTANCE_BYTE = 6, /* reserved instance byte, whatever the address kind */
+    MF_COUNT_EVENT = 7,             /* an event of scheme s stands at MF_COUNT_EVENT + s: 7 to 11 */
+    MF_COUNT_POWER_CYCLE = 12,
+    MF_COUNT_BAD_BLANK_FIELD = 13,  /* malformed power event */
+    MF_COUNT_BAD_EVENT = 14,        /* reserved event */
+    MF_CLASSES = 15,                /* how many classes there are: their counts add up to the frame records */
+    MF_COUNT_POWER_ON = 15          /* power-on records */
 };
 
 /* ---- answers ----
@@ -375,6 +394,15 @@ uint32_t mf_compose_event(uint32_t type, uint32_t number, uint32_t primary, uint
 /* A power event, from a short address (0..63 or 255) and 32 group bits.
  * 6: the short address is out of range. */
 uint32_t mf_compose_power(uint32_t short_address, uint32_t groups);
+
+/* ---- trace records, without a unit ---- */
+
+/* What the wire carried: each record is counted by the class of its frame, a power-on record apart, and the counts are added to
+ * what stands in `counts`, modulo 2^64. So begin with zeros; a capture that is handed in slices of whole records adds up to the
+ * same. Clocks are not looked at. No record is no fault.
+ * 13: a record is unfinished or of unknown kind. It ends the count and is counted nowhere, nothing behind it is read, and what
+ * was counted before it is added. */
+uint32_t mf_census(const uint8_t *records, size_t records_length, uint64_t counts[MF_COUNTS]);
 
 #ifdef __cplusplus
 }

@@ -6,10 +6,7 @@
 
 #include "unit.h"
 
-enum {
-    ADR_BYTES = 5,    /* address, then 32 group bits, high byte first */
-    RECORD_LENGTH = 8 /* records of 8 bytes */
-};
+enum { ADR_BYTES = 5 }; /* address, then 32 group bits, high byte first */
 
 /* Each file has room for one byte over its limit, so that a longer file is
    seen to be longer. */

@@ -3,6 +3,7 @@
 #include <stdlib.h>
 #include <string.h>
 
+#include "capture.h"
 #include "files.h"
 #include "unit.h"
 
@@ -17,6 +18,14 @@ static void expect(bool holds, const char *what)
         failed++;
         printf("failed: %s\n", what);
     }
+}
+
+/* The same, said of something that has a name. */
+static void expect_of(bool holds, const char *said, const char *name)
+{
+    char what[80];
+    (void)snprintf(what, sizeof what, "%s %s", said, name);
+    expect(holds, what);
 }
 
 /* A unit with what it was lent. */
@@ -2292,20 +2301,23 @@ static bool write_goes_on(uint32_t frame)
            && bench.store[9] == 0x99;
 }
 
+/* Something that holds for each frame of a list. */
+static void expect_each(const Named *list, size_t count,
+                        bool (*holds)(uint32_t frame), const char *said)
+{
+    for (size_t i = 0; i < count; i++) {
+        expect_of(holds(list[i].frame), said, list[i].what);
+    }
+}
+
 static void commands_that_close(void)
 {
     static const uint8_t pairs[7] = {0x11, 0x14, 0x15, 0x19, 0x1A, 0x1B, 0x1C};
     static const uint8_t queries[5] = {0x33, 0x41, 0x42, 0x43, 0x44};
     unsigned unlike = 0;
-    for (size_t i = 0; i < sizeof closing / sizeof closing[0]; i++) {
-        char what[80];
-        (void)snprintf(what, sizeof what, "closes and no more: %s",
-                       closing[i].what);
-        expect(only_closes(closing[i].frame), what);
-        (void)snprintf(what, sizeof what, "a write lost after %s",
-                       closing[i].what);
-        expect(write_is_lost(closing[i].frame), what);
-    }
+    const size_t count = sizeof closing / sizeof closing[0];
+    expect_each(closing, count, only_closes, "closes and no more:");
+    expect_each(closing, count, write_is_lost, "a write lost after");
     for (size_t i = 0; i < 7; i++) {
         unlike += write_is_lost(0x0BFE00u | pairs[i]) ? 0 : 1;
     }
@@ -2338,15 +2350,10 @@ static void frames_that_leave_it_open(void)
 {
     Bench bench = open_bench();
     Unit open = bench.unit;
-    for (size_t i = 0; i < sizeof not_closing / sizeof not_closing[0]; i++) {
-        char what[80];
-        (void)snprintf(what, sizeof what, "leaves all but a waiting frame: %s",
-                       not_closing[i].what);
-        expect(leaves_open(not_closing[i].frame), what);
-        (void)snprintf(what, sizeof what, "a write goes on after %s",
-                       not_closing[i].what);
-        expect(write_goes_on(not_closing[i].frame), what);
-    }
+    const size_t count = sizeof not_closing / sizeof not_closing[0];
+    expect_each(not_closing, count, leaves_open,
+                "leaves all but a waiting frame:");
+    expect_each(not_closing, count, write_goes_on, "a write goes on after");
     expect(step(&bench, 0x1000000) == FRAME_TOO_LARGE
                && same_state(&bench.unit, &open),
            "a refused frame leaves it open");
@@ -3740,6 +3747,486 @@ static void any_state(void)
     expect_seen(&seen);
 }
 
+/* ---- the census of a capture ---- */
+
+/* Sixteen counts, one behind them that no call writes, and the number. */
+typedef struct Census {
+    uint32_t number;
+    uint64_t counts[CENSUS_COUNTS + 1];
+} Census;
+
+/* Some records, perhaps with a tail. */
+typedef struct Capture {
+    uint8_t bytes[48 * RECORD_LENGTH];
+    size_t length;
+} Capture;
+
+/* Clock (4, high first), kind, frame (3). */
+static void put_record(Capture *capture, uint32_t clock, uint8_t kind,
+                       uint32_t frame)
+{
+    const uint8_t record[RECORD_LENGTH] = {
+        (uint8_t)(clock >> 24), (uint8_t)(clock >> 16), (uint8_t)(clock >> 8),
+        (uint8_t)clock,         kind,                   (uint8_t)(frame >> 16),
+        (uint8_t)(frame >> 8),  (uint8_t)frame};
+    memcpy(capture->bytes + capture->length, record, sizeof record);
+    capture->length += sizeof record;
+}
+
+/* A record that is counted where it is told. */
+static void put_counted(Capture *capture, unsigned count, uint32_t frame)
+{
+    put_record(capture, 0, count == POWER_ONS ? 1 : 0, frame);
+}
+
+/* Adds some bytes, in a place of exactly their length: nothing outside them is
+   read, and no bytes have no pointer either. */
+static void add_bytes(Census *census, const uint8_t *bytes, size_t length)
+{
+    uint8_t *copy = exact_copy(bytes, length);
+    census->number = second_census(copy, length, census->counts);
+    free(copy);
+}
+
+static bool same_census(const Census *one, const Census *other)
+{
+    return one->number == other->number
+           && memcmp(one->counts, other->counts, sizeof one->counts) == 0;
+}
+
+/* The number and each of the sixteen counts, added to zeros, to 2^64 - 1 and to
+   a multiple of 2^32 less one, each count its own. */
+static bool counted_as(const Capture *capture, const Census *wanted)
+{
+    static const uint64_t first[3] = {0, UINT64_MAX, UINT32_MAX};
+    static const uint64_t rise[3] = {0, 0, UINT64_C(1) << 32};
+    bool alike = true;
+    for (size_t way = 0; way < 3; way++) {
+        Census census = {0, {0}};
+        Census sum = *wanted;
+        for (size_t i = 0; i <= CENSUS_COUNTS; i++) {
+            census.counts[i] = first[way] + i * rise[way];
+            sum.counts[i] += census.counts[i];
+        }
+        add_bytes(&census, capture->bytes, capture->length);
+        alike = alike && same_census(&census, &sum);
+    }
+    return alike;
+}
+
+/* One record; it adds one to one count. */
+static bool counted_once(const Capture *capture, unsigned count)
+{
+    Census wanted = {0, {0}};
+    wanted.counts[count] = 1;
+    return counted_as(capture, &wanted);
+}
+
+static void census_of_nothing(void)
+{
+    const Census nothing = {0, {0}};
+    const Capture empty = {{0}, 0};
+    Census census = {0, {0}};
+    expect(counted_as(&empty, &nothing), "an empty capture adds nothing");
+    census.number = second_census(empty.bytes, 0, census.counts);
+    expect(same_census(&census, &nothing), "the same with a pointer");
+}
+
+/* A frame, its class by number, and what it is. */
+typedef struct Classed {
+    uint32_t frame;
+    unsigned class;
+    const char *what;
+} Classed;
+
+static const Classed classed[] = {
+    {0x0BFE15, 0, "P1, a command to a short address"},
+    {0x010000, 0, "the lowest command to a short address"},
+    {0x7FFFFF, 0, "the highest command to a short address"},
+    {0x0BF936, 0, "a feature command to a short address"},
+    {0x85FE30, 1, "a command to a device group"},
+    {0x810000, 1, "the lowest command to a device group"},
+    {0xBFFFFF, 1, "the highest command to a device group"},
+    {0xFDFE30, 2, "a command to the unaddressed"},
+    {0xFD0000, 2, "an instance command to the unaddressed"},
+    {0xFFFE3C, 3, "P2, a command to all"},
+    {0xFFFFFF, 3, "the highest frame"},
+    {0xC13102, 4, "a special command"},
+    {0xC10000, 4, "the lowest special command"},
+    {0xDFFFFF, 4, "the highest special command"},
+    {0xC54000, 4, "a special command with a byte reserved elsewhere"},
+    {0xE1FE15, 5, "the lowest reserved address byte"},
+    {0xFBFE10, 5, "the highest reserved address byte"},
+    {0xF1FFFF, 5, "a reserved address byte, to instances"},
+    {0xE14000, 5, "a reserved address byte before the instance byte"},
+    {0xFBFB36, 5, "the same with the highest of both"},
+    {0x0B4030, 6, "a reserved instance byte to a short address"},
+    {0x85F830, 6, "a reserved instance byte to a device group"},
+    {0xFDFA00, 6, "a reserved instance byte to the unaddressed"},
+    {0xFFFB36, 6, "a reserved instance byte to all"},
+    {0x828805, 7, "P3, an event of scheme 0"},
+    {0x0A0D55, 8, "P4, an event of scheme 1"},
+    {0x000000, 8, "the lowest frame"},
+    {0x7EFFFF, 9, "P5, an event of scheme 2"},
+    {0x8E1000, 10, "P6, an event of scheme 3"},
+    {0xFE0001, 11, "P7, an event of scheme 4"},
+    {0xFEF1C5, 12, "P8, a power cycle"},
+    {0xFEE000, 12, "P9, a power cycle with neither"},
+    {0xFEFFFF, 12, "the highest power cycle"},
+    {0xFEE001, 13, "P10, a malformed power event"},
+    {0xFEE080, 13, "a power event with a blank group"},
+    {0xC08000, 14, "a reserved event"},
+    {0xFEDFFF, 14, "the highest reserved event"},
+};
+enum { CLASSED = sizeof classed / sizeof classed[0] };
+
+static void census_of_classes(void)
+{
+    bool seen[CLASSES] = {false};
+    unsigned classes = 0;
+    for (size_t i = 0; i < CLASSED; i++) {
+        Capture one = {{0}, 0};
+        put_record(&one, 0x01010101, 0, classed[i].frame);
+        expect_of(counted_once(&one, classed[i].class), "counted once:",
+                  classed[i].what);
+        classes += seen[classed[i].class] ? 0 : 1;
+        seen[classed[i].class] = true;
+    }
+    expect(classes == CLASSES, "a frame of each class");
+}
+
+/* Clock and frame of a power-on record are ignored. */
+static void census_of_power_ons(void)
+{
+    static const uint32_t clocks[4] = {0, 0x00000002, 0x02000000, 0xFFFFFFFF};
+    unsigned unlike = 0;
+    for (size_t i = 0; i < CLASSED * 4; i++) {
+        Capture one = {{0}, 0};
+        put_record(&one, clocks[i % 4], 1, classed[i / 4].frame);
+        unlike += counted_once(&one, POWER_ONS) ? 0 : 1;
+    }
+    expect(unlike == 0, "a power-on record, whatever its clock and frame");
+}
+
+/* Four records of a capture, and the counts that they add to. */
+static const struct {
+    unsigned count;
+    uint32_t frame;
+} sample[4] = {{CLASS_SHORT, 0x0BFE15},
+               {POWER_ONS, 0x0BFE15},
+               {CLASS_MALFORMED_POWER, 0xFEE001},
+               {CLASS_SHORT, 0x7F0000}};
+
+static void put_sample(Capture *capture, size_t from, size_t to)
+{
+    for (size_t i = from; i < to; i++) {
+        put_counted(capture, sample[i].count, sample[i].frame);
+    }
+}
+
+/* What comes after the first records of the sample gives 13. */
+static bool ends_behind(const Capture *capture, size_t records)
+{
+    Census wanted = {TRACE_RECORD, {0}};
+    for (size_t i = 0; i < records; i++) {
+        wanted.counts[sample[i].count]++;
+    }
+    return counted_as(capture, &wanted);
+}
+
+/* In each place of the sample, the last one behind all four. */
+static void census_of_unknown_kinds(void)
+{
+    static const uint8_t kinds[4] = {2, 3, 128, 255};
+    static const char *const places[5] = {"first", "second", "third", "fourth",
+                                          "last"};
+    for (size_t i = 0; i < 20; i++) {
+        Capture capture = {{0}, 0};
+        char what[40];
+        put_sample(&capture, 0, i / 4);
+        put_record(&capture, 7, kinds[i % 4], 0x0BFE15);
+        put_sample(&capture, i / 4, 4);
+        (void)snprintf(what, sizeof what, "kind %u in place:", kinds[i % 4]);
+        expect_of(ends_behind(&capture, i / 4), what, places[i / 4]);
+    }
+}
+
+/* Alone and behind whole records, its kind known or not. */
+static void census_of_tails(void)
+{
+    static const uint8_t kinds[4] = {0, 1, 2, 255};
+    for (size_t tail = 1; tail < RECORD_LENGTH; tail++) {
+        unsigned unlike = 0;
+        char what[40];
+        for (size_t i = 0; i < 20; i++) {
+            Capture capture = {{0}, 0};
+            put_sample(&capture, 0, i / 4);
+            put_record(&capture, 7, kinds[i % 4], 0x0BFE15);
+            capture.length -= RECORD_LENGTH - tail;
+            unlike += ends_behind(&capture, i / 4) ? 0 : 1;
+        }
+        (void)snprintf(what, sizeof what, "a tail of %zu bytes", tail);
+        expect(unlike == 0, what);
+    }
+}
+
+/* Behind a record of unknown kind: every class and a power-on, then nothing,
+   a tail, or another such record. */
+static void census_ends(void)
+{
+    Capture capture = {{0}, 0};
+    put_sample(&capture, 0, 2);
+    put_record(&capture, 0, 2, 0x0BFE15);
+    for (size_t i = 0; i < CLASSED; i++) {
+        put_counted(&capture, classed[i].class, classed[i].frame);
+    }
+    put_counted(&capture, POWER_ONS, 0);
+    expect(ends_behind(&capture, 2), "nothing behind 13 is counted");
+    capture.length -= 3;
+    expect(ends_behind(&capture, 2), "13, then a tail");
+    capture.length -= RECORD_LENGTH - 3;
+    put_record(&capture, 0, 255, 0);
+    put_sample(&capture, 2, 4);
+    expect(ends_behind(&capture, 2), "13, then another");
+}
+
+/* A capture of each class and of a power-on, added again and again. */
+static void census_adds(void)
+{
+    Capture capture = {{0}, 0};
+    Census census = {0, {0}};
+    Census wanted = {0, {0}};
+    for (size_t i = 0; i < CLASSED; i++) {
+        put_counted(&capture, classed[i].class, classed[i].frame);
+        wanted.counts[classed[i].class]++;
+    }
+    put_counted(&capture, POWER_ONS, 0);
+    wanted.counts[POWER_ONS]++;
+    expect(counted_as(&capture, &wanted), "each class and a power-on");
+    for (size_t i = 0; i < CENSUS_COUNTS; i++) {
+        census.counts[i] = 0 - wanted.counts[i];
+    }
+    add_bytes(&census, capture.bytes, capture.length);
+    for (size_t i = 0; i < CENSUS_COUNTS; i++) {
+        expect_of(census.counts[i] == 0, "runs over to 0:", count_names[i]);
+    }
+    add_bytes(&census, capture.bytes, capture.length);
+    expect(same_census(&census, &wanted), "and goes on from there");
+}
+
+/* ---- every frame, and any capture ---- */
+
+/* The class of an event, by its first byte and its two others. */
+static unsigned class_of_event(uint32_t first, uint32_t others)
+{
+    bool high = others >= 0x8000;
+    uint32_t group = others >> 7 & 0x3F;
+    uint32_t address = others & 0x7F;
+    if (first < 0x80) {
+        return high ? 9 : 8;
+    }
+    if (first < 0xC0) {
+        return high ? 7 : 10;
+    }
+    if (!high) {
+        return 11;
+    }
+    if (first != 0xFE || others < 0xE000) {
+        return 14;
+    }
+    bool blank = (group > 0 && group < 32) || (address > 0 && address < 64);
+    return blank ? 13 : 12;
+}
+
+/* The class of a frame, by its bytes and not by the reader. */
+static unsigned class_of_bytes(uint32_t frame)
+{
+    uint32_t first = frame >> 16;
+    if (first % 2 == 0) {
+        return class_of_event(first, frame & 0xFFFF);
+    }
+    if (first >= 0xC1 && first <= 0xFB) {
+        return first <= 0xDF ? 4 : 5;
+    }
+    if (instance_reserved(frame >> 8 & 0xFF)) {
+        return 6;
+    }
+    if (first >= 0xFD) {
+        return first == 0xFD ? 2 : 3;
+    }
+    return first < 0x80 ? 0 : 1;
+}
+
+/* All frames, 4,096 records at a time. */
+static void census_of_every_frame(void)
+{
+    static const Census figures = {
+        0, {3227648, 1613824, 50432,   50432,   1048576, 917504, 1480192,
+            1048576, 2097152, 2097152, 1048576, 1048576, 2145,   6047,
+            1040384, 0,       0}};
+    static uint8_t slice[4096][RECORD_LENGTH];
+    Census census = {0, {0}};
+    Census wanted = {0, {0}};
+    unsigned unlike = 0;
+    for (uint32_t frame = 0; frame < 0x1000000; frame++) {
+        uint8_t *record = slice[frame % 4096];
+        record[5] = (uint8_t)(frame >> 16);
+        record[6] = (uint8_t)(frame >> 8);
+        record[7] = (uint8_t)frame;
+        wanted.counts[class_of_bytes(frame)]++;
+        if (frame % 4096 == 4095) {
+            census.number =
+                second_census(slice[0], sizeof slice, census.counts);
+            unlike += same_census(&census, &wanted) ? 0 : 1;
+        }
+    }
+    expect(unlike == 0, "every frame is in its class");
+    for (size_t i = 0; i < CENSUS_COUNTS; i++) {
+        expect_of(census.counts[i] == figures.counts[i],
+                  "over all frames:", count_names[i]);
+    }
+    expect(same_census(&census, &figures), "over all frames: no number");
+}
+
+/* The census of a capture, by its bytes. */
+static Census census_by_bytes(const Capture *capture)
+{
+    Census census = {0, {0}};
+    for (size_t i = 0; i < capture->length; i += RECORD_LENGTH) {
+        const uint8_t *record = capture->bytes + i;
+        if (i + RECORD_LENGTH > capture->length || record[4] > 1) {
+            census.number = TRACE_RECORD;
+            return census;
+        }
+        uint32_t frame = record[5] * 0x10000u + record[6] * 0x100u + record[7];
+        census.counts[record[4] == 1 ? POWER_ONS : class_of_bytes(frame)]++;
+    }
+    return census;
+}
+
+static Census census_from_zero(const Capture *capture)
+{
+    Census census = {0, {0}};
+    add_bytes(&census, capture->bytes, capture->length);
+    return census;
+}
+
+/* Up to 40 records; some of unknown kind, and often a tail. */
+static Capture any_capture(void)
+{
+    Capture capture = {{0}, 0};
+    for (uint32_t i = any_number() % 41; i > 0; i--) {
+        uint32_t frame = one_in(2) ? any_number() % 0x1000000
+                                   : classed[any_number() % CLASSED].frame;
+        uint8_t kind = one_in(5) ? 1 : 0;
+        put_record(&capture, any_number(),
+                   one_in(40) ? (uint8_t)any_number() : kind, frame);
+    }
+    if (one_in(3)) {
+        put_record(&capture, any_number(), (uint8_t)(any_number() % 3), 0);
+        capture.length -= 1 + any_number() % 7;
+    }
+    return capture;
+}
+
+/* The records before the end, which are counted; perhaps frames only. */
+static uint64_t records_of(const Census *census, bool frames_only)
+{
+    uint64_t sum = 0;
+    for (size_t i = 0; i < (frames_only ? CLASSES : CENSUS_COUNTS); i++) {
+        sum += census->counts[i];
+    }
+    return sum;
+}
+
+/* The fifteen classes add up to the frame records before the end. */
+static bool adds_up(const Capture *capture, const Census *census)
+{
+    uint64_t records = 0;
+    uint64_t frames = 0;
+    while ((records + 1) * RECORD_LENGTH <= capture->length
+           && capture->bytes[records * RECORD_LENGTH + 4] <= 1) {
+        frames += capture->bytes[records * RECORD_LENGTH + 4] == 0 ? 1 : 0;
+        records++;
+    }
+    return records_of(census, true) == frames
+           && records_of(census, false) == records;
+}
+
+/* Cut at every record boundary; the rest isn't handed on after 13. */
+static bool cuts_alike(const Capture *capture, const Census *whole)
+{
+    bool alike = true;
+    for (size_t at = 0; at <= capture->length; at += RECORD_LENGTH) {
+        Census census = {0, {0}};
+        add_bytes(&census, capture->bytes, at);
+        if (census.number == 0) {
+            add_bytes(&census, capture->bytes + at, capture->length - at);
+        }
+        alike = alike && same_census(&census, whole);
+    }
+    return alike;
+}
+
+/* The same with any other clocks. */
+static bool clocks_ignored(const Capture *capture, const Census *whole)
+{
+    Capture other = *capture;
+    for (size_t i = 0; i < other.length; i++) {
+        if (i % RECORD_LENGTH < 4) {
+            other.bytes[i] = (uint8_t)any_number();
+        }
+    }
+    Census census = census_from_zero(&other);
+    return same_census(&census, whole);
+}
+
+/* What came before the end, alone: the same counts, and no number. */
+static bool keeps_before(const Capture *capture, const Census *whole)
+{
+    Capture before = *capture;
+    Census wanted = *whole;
+    before.length = (size_t)records_of(whole, false) * RECORD_LENGTH;
+    wanted.number = 0;
+    return before.length <= capture->length && counted_as(&before, &wanted);
+}
+
+/* What ended a census: 0 the end of the capture, 1 an unknown kind, 2 a
+   tail. */
+static unsigned end_of(const Capture *capture, const Census *census)
+{
+    if (census->number == 0) {
+        return 0;
+    }
+    uint64_t behind = (records_of(census, false) + 1) * RECORD_LENGTH;
+    return behind <= capture->length ? 1 : 2;
+}
+
+static void any_census(void)
+{
+    unsigned unlike[5] = {0};
+    unsigned ended[3] = {0};
+    random_state = 3;
+    for (unsigned i = 0; i < 2000; i++) {
+        Capture capture = any_capture();
+        Census wanted = census_by_bytes(&capture);
+        Census census = census_from_zero(&capture);
+        ended[end_of(&capture, &wanted)]++;
+        unlike[0] += counted_as(&capture, &wanted) ? 0 : 1;
+        unlike[1] += adds_up(&capture, &census) ? 0 : 1;
+        unlike[2] += cuts_alike(&capture, &census) ? 0 : 1;
+        unlike[3] += clocks_ignored(&capture, &census) ? 0 : 1;
+        unlike[4] += keeps_before(&capture, &census) ? 0 : 1;
+    }
+    expect(unlike[0] == 0, "any capture: counted by its bytes");
+    expect(unlike[1] == 0, "any capture: the classes add up");
+    expect(unlike[2] == 0, "any capture: cut at every record");
+    expect(unlike[3] == 0, "any capture: clocks are ignored");
+    expect(unlike[4] == 0, "any capture: 13 leaves what came before it");
+    expect(ended[0] >= OFTEN && ended[1] >= OFTEN && ended[2] >= OFTEN,
+           "any capture: with 0, and with 13 by a kind and by a tail");
+}
+
 int main(void)
 {
     static void (*const groups_of_checks[])(void) = {
@@ -3764,7 +4251,9 @@ int main(void)
         writes_not_executed, writes_not_taken, staging_again, locks,
         banks_apart, every_width, reads, latch_and_writes, resets, addresses, groups,
         registers, trace_files, trace_records, written_records, any_input,
-        any_session, any_state};
+        any_session, any_state, census_of_nothing, census_of_classes,
+        census_of_power_ons, census_of_unknown_kinds, census_of_tails,
+        census_ends, census_adds, census_of_every_frame, any_census};
     for (size_t i = 0;
          i < sizeof groups_of_checks / sizeof groups_of_checks[0]; i++) {
         groups_of_checks[i]();

@@ -34,6 +34,7 @@ enum {
     STATE_BYTES = 96,   /* a state as bytes */
     LISTED_BYTES = 24,  /* a value in the compare call's list */
     SESSION_ROOM = 13,  /* places for the frames of a session */
+    RECORD_LENGTH = 8,  /* a record of the trace program */
     NO_ADDRESS = 255    /* short address 0..63 or 255 */
 };
 
@@ -45,6 +46,24 @@ enum { SHORT_ADDRESS = 0, DEVICE_GROUP = 1, UNADDRESSED = 2, BROADCAST = 3 };
 
 /* What the find call says of a location. */
 enum { FOUND = 0, ABSENT = 1, HOLE = 2, PAST = 3 };
+
+/* What a census counts: frames by their class, and power-on records apart. */
+enum {
+    CLASS_SHORT = 0, /* commands by address kind, in its order */
+    CLASS_GROUP = 1,
+    CLASS_UNADDRESSED = 2,
+    CLASS_BROADCAST = 3,
+    CLASS_SPECIAL = 4,
+    CLASS_RESERVED_ADDRESS = 5,
+    CLASS_RESERVED_INSTANCE = 6, /* whatever its address kind */
+    CLASS_EVENT = 7,             /* events by scheme: 7 to 11 */
+    CLASS_POWER = 12,
+    CLASS_MALFORMED_POWER = 13,
+    CLASS_RESERVED_EVENT = 14,
+    CLASSES = 15,
+    POWER_ONS = 15,
+    CENSUS_COUNTS = 16
+};
 
 /* State. Any numbers may be handed in; the rules of a state are tested. */
 typedef struct Unit {
@@ -139,6 +158,16 @@ uint32_t second_compare(const uint8_t *map, size_t map_len,
 uint32_t second_session(const uint8_t *map, size_t map_len, uint32_t address,
                         uint32_t bank, uint32_t location, const uint8_t *bytes,
                         size_t bytes_len, uint32_t frames[SESSION_ROOM]);
+
+/* The census of a capture: 0, or 13 where a record is unfinished or of unknown
+   kind. Each record of the capture, 8 bytes as the trace program reads them,
+   adds one to one of the counts, modulo 2^64: a frame to that of its class, a
+   power-on to the last. Clocks are ignored, and so is the frame of a power-on
+   record. 13 ends the count and is counted nowhere: what came before it stays
+   added, nothing behind it is read. An empty capture is 0 and adds nothing; its
+   records may be any pointer. The counts don't overlap the records. */
+uint32_t second_census(const uint8_t *records, size_t records_len,
+                       uint64_t counts[CENSUS_COUNTS]);
 
 /* Start, a later power-on, a frame step:
    number | answered << 8 | answer << 16. */

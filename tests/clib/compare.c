@@ -9,6 +9,7 @@
  * that is lent to them, and over an mf_unit. Of some maps every bank and location is tried. */
 #include "inputs.h"
 
+#include "capture.h"
 #include "unit.h"
 
 #include <inttypes.h>
@@ -18,7 +19,9 @@
 
 /* ---- counting ---- */
 
-enum Call { CHECK, LOOK, FIND, COMPARE, SESSION, READ, WRITE, EVENT_COMPOSER, POWER_COMPOSER, START, STEP, POWER_ON, RUN, CALLS };
+enum Call {
+    CHECK, LOOK, FIND, COMPARE, SESSION, READ, WRITE, EVENT_COMPOSER, POWER_COMPOSER, CENSUS, START, STEP, POWER_ON, RUN, CALLS
+};
 
 static const struct {
     const char *name;
@@ -34,6 +37,7 @@ static const struct {
     [WRITE] = {"mf_write", 0x0041, false},
     [EVENT_COMPOSER] = {"mf_compose_event", 0x0041, false},
     [POWER_COMPOSER] = {"mf_compose_power", 0x0041, false},
+    [CENSUS] = {"mf_census", 0x2001, false},
     [START] = {"mf_start", 0x0FC1, true},
     [STEP] = {"mf_frame", 0x1F83, true},
     [POWER_ON] = {"mf_power_on", 0x1F81, true},
@@ -76,6 +80,7 @@ enum Seen {
     OF_13_FRAMES, OF_THE_LOCK_BYTE, SESSION_NOT_CUT, SESSION_ADDRESS_NOT_CUT, SESSION_BY_MAP_ALONE,
     RAN, RAN_WRAPPED, RAN_WAITING, RAN_OPEN, RAN_STAGED, RAN_UNLOCKED, RAN_LATCHED, RAN_OVER, RAN_SAME,
     SHIPPED_WITH_ADDRESS, SHIPPED_WITHOUT_ADDRESS,
+    COUNTED_NONE, COUNTED_ALL, TAIL_ENDED, UNKNOWN_ENDED, COUNT_RAN_OVER, CUT_BETWEEN, CUT_BEHIND_13,
     SEEN
 };
 
@@ -156,6 +161,13 @@ static const char *const seen_names[SEEN] = {
     [RAN_SAME] = "sessions run that leave every byte of the store as it was",
     [SHIPPED_WITH_ADDRESS] = "events composed as shipped, with a short address",
     [SHIPPED_WITHOUT_ADDRESS] = "events composed as shipped, without a short address",
+    [COUNTED_NONE] = "censuses of no record",
+    [COUNTED_ALL] = "censuses of all their records",
+    [TAIL_ENDED] = "censuses that an unfinished record ended",
+    [UNKNOWN_ENDED] = "censuses that a record of unknown kind ended, with more behind it",
+    [COUNT_RAN_OVER] = "counts that ran over 2^64 in a census",
+    [CUT_BETWEEN] = "censuses in two slices, both with records",
+    [CUT_BEHIND_13] = "censuses in two slices, of which the first gave 13",
 };
 
 static uint64_t seen[SEEN];
@@ -796,6 +808,65 @@ static void compose(void) {
     same(POWER_COMPOSER, ours, second_compose_power(address, groups), mf_number(ours));
 }
 
+/* ---- a census of trace records ---- */
+
+enum { CAPTURE = 40 };
+
+static uint64_t counted[MF_COUNTS];
+
+/* A frame of any class: power events too, good and malformed. */
+static uint32_t wire_frame(void) {
+    static const Kept nobody;
+    if (once_in(8)) return 0xFEE000 | below(8192);
+    return once_in(3) ? any() >> 8 : any_frame(&nobody) & 0xFFFFFF;
+}
+
+/* Records, mostly of known kind; the last one may be unfinished. */
+static size_t make_capture(uint8_t bytes[8 * CAPTURE]) {
+    size_t count = once_in(20) ? 0 : 1 + below(CAPTURE);
+    for (size_t i = 0; i < count; i++) {
+        uint32_t clock = any(), frame = wire_frame();
+        uint8_t fields[8] = {(uint8_t)(clock >> 24), (uint8_t)(clock >> 16), (uint8_t)(clock >> 8), (uint8_t)clock,
+                             once_in(10), (uint8_t)(frame >> 16), (uint8_t)(frame >> 8), (uint8_t)frame};
+        if (once_in(100)) fields[4] = byte();
+        memcpy(bytes + 8 * i, fields, 8);
+    }
+    return 8 * count - (count > 0 && once_in(4) ? 1 + below(7) : 0);
+}
+
+/* How many were added, in all and of frames: the records before the end. The count behind the last stays. */
+static void see_counts(const uint8_t *bytes, size_t length, const uint64_t *before, const uint64_t *after, uint32_t number) {
+    uint64_t frames = 0, added = 0, end = 0, known = 0;
+    for (size_t k = 0; k < MF_COUNTS; k++) {
+        added += after[k] - before[k], frames += k < MF_CLASSES ? after[k] - before[k] : 0;
+        counted[k] += after[k] - before[k];
+        see(COUNT_RAN_OVER, after[k] < before[k]);
+    }
+    while (8 * end + 8 <= length && bytes[8 * end + 4] < 2) known += bytes[8 * end++ + 4] == MF_RECORD_FRAME;
+    expect_call(CENSUS, "the counts are not the records before the end", added == end && frames == known);
+    expect_call(CENSUS, "not 13 exactly if a record is left", (number == MF_BAD_TRACE_RECORD) == (8 * end < length));
+    expect_call(CENSUS, "what stands behind the counts changed", after[MF_COUNTS] == before[MF_COUNTS]);
+    see(COUNTED_NONE, length == 0), see(COUNTED_ALL, length > 0 && number == MF_OK);
+    see(TAIL_ENDED, number != MF_OK && length - 8 * end < 8), see(UNKNOWN_ENDED, number != MF_OK && length - 8 * end > 8);
+}
+
+/* Once in one piece, by both, and once in two slices of whole records. */
+static void census_call(void) {
+    uint8_t bytes[8 * CAPTURE];
+    uint64_t before[MF_COUNTS + 1], mine[MF_COUNTS + 1], other[MF_COUNTS + 1], sliced[MF_COUNTS + 1];
+    size_t length = make_capture(bytes), cut = 8 * below((uint32_t)(length / 8) + 1);
+    for (size_t k = 0; k <= MF_COUNTS; k++) before[k] = once_in(4) ? UINT64_MAX - below(3) : (uint64_t)any() << 32 | any();
+    memcpy(mine, before, sizeof mine), memcpy(other, before, sizeof other), memcpy(sliced, before, sizeof sliced);
+    uint32_t ours = mf_census(bytes, length, mine);
+    same(CENSUS, ours, second_census(bytes, length, other), ours);
+    expect_call(CENSUS, "other counts", memcmp(mine, other, sizeof mine) == 0);
+    see_counts(bytes, length, before, mine, ours);
+    uint32_t number = mf_census(bytes, cut, sliced);
+    see(CUT_BETWEEN, number == MF_OK && cut > 0 && cut < length), see(CUT_BEHIND_13, number != MF_OK && cut < length);
+    if (number == MF_OK) number = mf_census(bytes + cut, length - cut, sliced);
+    expect_call(CENSUS, "in two slices another census", number == ours && memcmp(mine, sliced, sizeof mine) == 0);
+}
+
 /* ---- what came ---- */
 
 static void show_call(enum Call call, uint64_t least) {
@@ -820,6 +891,11 @@ static void show_damage(enum Damage which) {
     expect(damages[which].name, "never tried", 0, damaged[which] > 0);
 }
 
+static void show_counted(size_t k) {
+    printf("%12" PRIu64 " records counted: %s\n", counted[k], count_names[k]);
+    expect(count_names[k], "never counted", 0, counted[k] > 0);
+}
+
 static void show_seen(enum Seen what) {
     printf("%12" PRIu64 " %s\n", seen[what], seen_names[what]);
     expect(seen_names[what], "never seen", 0, seen[what] > 0);
@@ -832,11 +908,12 @@ int main(int argc, char **argv) {
     printf("seed %" PRIu64 "\n", seed);
     for (uint64_t i = 0; i < least; i += STEPS) one_unit(STEPS);
     every_place_of_some();
-    for (uint64_t i = 0; i < least; i++) read_and_write(), compose();
+    for (uint64_t i = 0; i < least; i++) read_and_write(), compose(), census_call();
     for (enum Call call = CHECK; call < CALLS; call++) show_call(call, least);
     printf("number and times a damage was tried and gave it\n");
     for (enum Damage which = 0; which < DAMAGES; which++) show_damage(which);
     for (enum Seen what = 0; what < SEEN; what++) show_seen(what);
+    for (size_t k = 0; k < MF_COUNTS; k++) show_counted(k);
     printf("%" PRIu64 " passed, %" PRIu64 " failed\n", passed, failed);
     return failed > 0;
 }

@@ -20,7 +20,7 @@ static void (*job)(void);
 static Lent lent;
 static Kept kept, tried;
 static uint32_t frame, now, session_frames[MF_SESSION_FRAMES];
-static uint64_t word;
+static uint64_t word, counts[MF_COUNTS];
 
 static void do_nothing(void) {}
 
@@ -75,6 +75,7 @@ static void do_compose_event(void)
     mf_compose_event(1, 2, 3, frame & 0x100 ? 4 : MF_NO_ADDRESS, frame, 5, frame % 6 < 5 ? frame % 6 : MF_AS_SHIPPED);
 }
 static void do_compose_power(void) { mf_compose_power(frame % 64, frame); }
+static void do_census(void) { mf_census(records_in, sizeof records_in - frame % 8, counts); }
 
 static struct {
     const char *name;
@@ -87,7 +88,7 @@ static struct {
     {"mf_find", do_find, 0},             {"mf_compare", do_compare, 0},
     {"mf_session", do_session, 0},       {"mf_read", do_read, 0},
     {"mf_write", do_write, 0},           {"mf_compose_event", do_compose_event, 0},
-    {"mf_compose_power", do_compose_power, 0},
+    {"mf_compose_power", do_compose_power, 0}, {"mf_census", do_census, 0},
 };
 
 enum { CALLS = sizeof calls / sizeof *calls };

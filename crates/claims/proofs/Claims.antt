@@ -41,6 +41,17 @@ use Rattle.entries.proofs.Cases.{cases as entries-cases}
 use Rattle.entries.proofs.Moved.{rest-kept, rest-settled}
 use Rattle.entries.proofs.Codes.{one-entry, broken-is-13}
 use Rattle.entries.proofs.Settled.{entry-settled, four-bytes-settled}
+use Rattle.census.proofs.Adds.{counts-are}
+use Rattle.census.proofs.Summed.{classes-add-up}
+use Rattle.census.proofs.Numbered.{number-is}
+use Rattle.census.proofs.Ends.{unknown-ends, unfinished-ends, nothing-after, nothing-there}
+use Rattle.census.proofs.Sliced.{slices-add-up, slices-add-to}
+use Rattle.census.proofs.Clocks.{clocks-ignored}
+use Rattle.census.proofs.ReadOn.{reader-reads}
+use Rattle.census.proofs.Figures.{figures-hold, figures-add-up, capture-figures}
+use Rattle.census.proofs.AllFrames.{all-frames}
+use Rattle.census.proofs.Cases.{census-cases}
+use Rattle.census.proofs.Settled.{census-settled, add-settled}
 use Rattle.memory.proofs.StagedRoom.{write-value}
 use Rattle.memory.proofs.LatchRoom.{read-latched, read-first, read-other, read-none}
 use Rattle.memory.proofs.Fills.{fill-value}
@@ -94,7 +105,7 @@ use Rattle.lifted.proofs.Demand.{demand-in-c, read-only-stay-in-c, accepts-as-u
 use Rattle.lifted.proofs.Following.{follows-unit}
 use Rattle.lifted.proofs.Each.{run-each, records-fit}
 use Rattle.claims.specs.Claims.{Frames, MapStoreImage, WhyMissing, Examined, TwoImages, StateClock, CommandsObeyed}
-use Rattle.claims.specs.Claims.{CompleteWriting, SessionWriter, RefusalNumbers, TraceProgram, BenchSheet, ErrorsSeen, PlaceForms}
+use Rattle.claims.specs.Claims.{CompleteWriting, SessionWriter, RefusalNumbers, TraceProgram, WireCensus, BenchSheet, ErrorsSeen, PlaceForms}
 use Rattle.claims.specs.Claims.{Judging, CLibrary, Claims}
 
 frames : Frames
@@ -283,6 +294,26 @@ trace-program = record {
   rest-is-kept = rest-kept;
 }
 
+wire-census : WireCensus
+wire-census = record {
+  counts-are = counts-are;
+  classes-add-up = classes-add-up;
+  census-number = number-is;
+  unknown-ends = unknown-ends;
+  unfinished-ends = unfinished-ends;
+  nothing-after = nothing-after;
+  nothing-there = nothing-there;
+  slices-add-up = slices-add-up;
+  slices-add-to = slices-add-to;
+  clocks-ignored = clocks-ignored;
+  reader-reads = reader-reads;
+  figures-hold = figures-hold;
+  figures-add-up = figures-add-up;
+  capture-figures = capture-figures;
+  all-frames = all-frames;
+  census-boundaries = census-cases;
+}
+
 bench-sheet : BenchSheet
 bench-sheet = record {
   sheet = unit-sheet-holds;
@@ -324,6 +355,8 @@ judging = record {
   compare-word-settled = compare-word-settled;
   session-settled = session-settled;
   session-word-settled = session-word-settled;
+  census-settled = census-settled;
+  add-settled = add-settled;
   numbers-settled = numbers-settled;
   calls-settled = calls-settled;
   entry-settled = entry-settled;
@@ -372,6 +405,7 @@ claims = record {
   session-writer = session-writer;
   refusal-numbers = refusal-numbers;
   trace-program = trace-program;
+  wire-census = wire-census;
   bench-sheet = bench-sheet;
   errors-seen = errors-seen;
   place-forms = place-forms;

@@ -39,6 +39,12 @@ use Rattle.session.specs.Cases.{SessionCases}
 use Rattle.entries.specs.Cases.{Cases as EntriesCases}
 use Rattle.entries.specs.Promises.{RestKept, EntrySettled, RestSettled, FourBytesSettled}
 use Rattle.entries.specs.Codes.{OneEntry, BrokenIs13}
+use Rattle.census.specs.Facts.{CountsAre, ClassesAddUp, NumberIs, UnknownEnds, UnfinishedEnds, NothingAfter, NothingThere}
+use Rattle.census.specs.Facts.{SlicesAddUp, SlicesAddTo, ClocksIgnored}
+use Rattle.census.specs.Figures.{FiguresHold, FiguresAddUp, CaptureFigures, AllFrames}
+use Rattle.census.specs.Reader.{ReaderReads}
+use Rattle.census.specs.Cases.{CensusCases}
+use Rattle.census.specs.Promises.{CensusSettled, AddSettled}
 use Rattle.memory.specs.Promises.{WriteValue, ReadLatched, FillValue, FillLocks, WriteNotLast, WholeValue, ReadFirst}
 use Rattle.memory.specs.Promises.{ReadOther, ReadNone}
 use Rattle.memory.specs.Cases.{ReadCases, ResetCases}
@@ -419,6 +425,43 @@ pub record TraceProgram : Type 0 where
   -- what is read of an unfinished record waits for its other bytes
   pub rest-is-kept : RestKept
 
+-- ---- Count what the wire carried (paper 02, Item 7)
+
+pub record WireCensus : Type 0 where
+  -- "how many commands by address kind, events by scheme, power cycles, reserved and malformed frames": each count is how many
+  -- frame records before the end are of its class. "Power-on records are counted apart"
+  pub counts-are : CountsAre
+  -- "The classes add up to the frame records read"
+  pub classes-add-up : ClassesAddUp
+  -- "Number 13": exactly if a record is unfinished or of unknown kind; and 0 exactly if none is
+  pub census-number : NumberIs
+  -- it "ends the count and is counted nowhere; the counts so far stand": a record of unknown kind, with anything behind it
+  pub unknown-ends : UnknownEnds
+  -- and an unfinished one
+  pub unfinished-ends : UnfinishedEnds
+  -- nothing behind it is read
+  pub nothing-after : NothingAfter
+  -- an empty capture is 0, and so is a place at the end or past it
+  pub nothing-there : NothingThere
+  -- a capture cut into slices of whole records adds up to the same
+  pub slices-add-up : SlicesAddUp
+  -- and so do the counts of a call that adds to them, modulo 2^64
+  pub slices-add-to : SlicesAddTo
+  -- clocks do not matter
+  pub clocks-ignored : ClocksIgnored
+  -- "The reader keeps the capture and its place together": moved on, it meets each record in turn, and then the end
+  pub reader-reads : ReaderReads
+  -- "Over all 16,777,216 frames once each": how many there are of each class
+  pub figures-hold : FiguresHold
+  -- "commands addressed and well formed 4,942,336", the four address kinds together; and the classes are all frames
+  pub figures-add-up : FiguresAddUp
+  -- and so in any capture that has each frame once, in any order
+  pub capture-figures : CaptureFigures
+  -- of which the one that has them in their order is one
+  pub all-frames : AllFrames
+  -- a frame of each class, captures by their bytes, and a reader's places, in one table
+  pub census-boundaries : CensusCases
+
 -- ---- Bench sheet
 
 pub record BenchSheet : Type 0 where
@@ -489,6 +532,10 @@ pub record Judging : Type 0 where
   pub session-settled : SessionSettled
   -- of its one number, and the frames in the lent array
   pub session-word-settled : SessionWordSettled
+  -- of a class, a census, and a reader's place
+  pub census-settled : CensusSettled
+  -- of a census that is added: number and counts
+  pub add-settled : AddSettled
   -- of the numbers of start, power-on and frame step
   pub numbers-settled : NumbersSettled
   -- of start, power-on and frame step: answer, state and store
@@ -566,6 +613,7 @@ pub record Claims : Type 1 where
   pub session-writer : SessionWriter
   pub refusal-numbers : RefusalNumbers
   pub trace-program : TraceProgram
+  pub wire-census : WireCensus
   pub bench-sheet : BenchSheet
   pub errors-seen : ErrorsSeen
   pub place-forms : PlaceForms

@@ -2,6 +2,7 @@
 -- Assumes nothing.
 use Prim.Native.Nat.{ℕ, zero, suc, _^_, _<_}
 use mathlib.Core.Path.{_≡_, refl, ap, sym, subst, _∙_}
+use mathlib.Core.Logic.{⊎-elim}
 use mathlib.Core.Bool.{true}
 use mathlib.Core.List.{List, [], _∷_}
 use native.Mathlib.Omega.{arith}
@@ -28,6 +29,8 @@ use Rattle.finds.specs.Find.{findTests, findNumber, findWord}
 use Rattle.finds.proofs.Finds.{find-shows, find-alone}
 use Rattle.compare.specs.Compare.{compareTests, compareNumber, compareOf, compareWord}
 use Rattle.compare.proofs.Numbered.{compare-shows, compare-alone}
+use Rattle.census.specs.Census.{censusOf}
+use Rattle.census.proofs.Numbered.{number-either}
 use Rattle.session.specs.Session.{sessionTests, sessionNumber, sessionOf, sessionWord}
 use Rattle.session.proofs.Numbered.{number-is}
 use Rattle.session.proofs.Shown.{session-shows, session-alone}
@@ -90,6 +93,11 @@ session-low map address bank location bytes (suc n) e =
     ap (λ (k : ℕ). bits k 7 0) (session-alone map address bank location bytes (omega arith))
     ∙ itself _ (small _ (sessionTests map address bank location (length bytes)) refl refl)
 
+-- and of a census: 0 or 13
+census-low : (records : List ℕ) → bits (censusOf records .number) 7 0 ≡ censusOf records .number
+census-low records =
+    itself _ (⊎-elim (λ e. omega (arith, e)) (λ e. omega (arith, e)) (number-either records))
+
 pub low-byte : LowByte
 unfolding startFace startNumber checkNumber lookNumber
 low-byte =
@@ -101,6 +109,7 @@ low-byte =
       find = λ map bank location. found-low map bank location _ refl;
       compare = λ map old new room. compared-low map old new room _ refl;
       session = λ map address bank location bytes. session-low map address bank location bytes _ refl;
+      census = census-low;
       start = λ map store image address groups.
           faced (startFace map store image address groups) _ (calls-reply map store image .start _) refl;
       frame = λ map store image bytes frame clock.

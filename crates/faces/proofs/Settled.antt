@@ -6,6 +6,7 @@ use Prim.Native.Nat.{ℕ}
 use Rattle.laws.proofs.Settled.{settles}
 use Rattle.compare.proofs.Numbered.{compare-word-settled}
 use Rattle.session.proofs.Shown.{session-word-settled}
+use Rattle.census.proofs.Settled.{add-settled}
 use Rattle.faces.specs.Face.{Faced, Faces, RunFaced, RunFaces}
 use Rattle.faces.specs.Promises.{SettlesFaced, SettlesRun, Settled}
 
@@ -33,6 +34,7 @@ settled =
       find = λ map bank location. settles _;
       compare = compare-word-settled;
       session = session-word-settled;
+      census = add-settled;
       read = λ frame. settles _;
       write = λ word. settles _;
       compose-event = λ sort number primary short groups information scheme. settles _;

@@ -29,6 +29,8 @@ use Rattle.rooms.specs.declared.reply.Reply.{Reply}
 use Rattle.numbers.specs.Numbers.{startTests, heardTests}
 use Rattle.numbers.specs.Promises.{GivenBy}
 use Rattle.entries.specs.Entry.{entries}
+use Rattle.census.specs.Census.{censusOf}
+use Rattle.census.specs.Promises.{AddCensusPromise, SettlesAdded}
 use Rattle.tracing.specs.Run.{roomFor}
 use Rattle.packing.specs.StateBytes.{flag, stateOf, shapeHolds}
 use Rattle.packing.specs.Promises.{Bytes}
@@ -82,6 +84,7 @@ pub record LowByte : Type 0 where
   pub session : (map : List ℕ) (address bank location : ℕ) (bytes : List ℕ) →
       bits (sessionWord (sessionOf map address bank location bytes)) 7 0
       ≡ sessionNumber map address bank location (length bytes)
+  pub census : (records : List ℕ) → bits (censusOf records .number) 7 0 ≡ censusOf records .number
   pub start : (map store image : List ℕ) (address groups : ℕ) → LowReply (startFace map store image address groups)
   pub frame : (map store image bytes : List ℕ) (frame clock : ℕ) →
       LowReply (frameFace map store image bytes frame clock)
@@ -177,6 +180,10 @@ CompareFacePromise map old new before r output = CompareWordPromise map old new 
 abbrev pub SessionFacePromise : List ℕ → ℕ → ℕ → ℕ → List ℕ → ℕ → List ℕ → Type 0
 SessionFacePromise map address bank location bytes r frames = SessionWordPromise map address bank location bytes r frames
 
+-- mf_census; the 16 counts were `before`
+abbrev pub CensusFacePromise : List ℕ → List ℕ → ℕ → List ℕ → Type 0
+CensusFacePromise records before r counts = AddCensusPromise records before r counts
+
 -- mf_start; state and left are the state's bytes and the store afterwards
 abbrev pub StartFacePromise : List ℕ → List ℕ → List ℕ → ℕ → ℕ → ℕ → List ℕ → List ℕ → Type 0
 StartFacePromise map store image address groups r state left =
@@ -238,6 +245,7 @@ pub record Settled : Type 0 where
   pub compare : (map old new before : List ℕ) → SettlesCompared (CompareFacePromise map old new before)
   pub session : (map : List ℕ) (address bank location : ℕ) (bytes : List ℕ) →
       SettlesWritten (SessionFacePromise map address bank location bytes)
+  pub census : (records before : List ℕ) → SettlesAdded (CensusFacePromise records before)
   pub read : (frame : ℕ) → Settles (ReadFacePromise frame)
   pub write : (word : ℕ) → Settles (WriteFacePromise word)
   pub compose-event : (sort number primary short groups information scheme : ℕ) →

@@ -2,11 +2,13 @@
 // crate's functions.
 mod unit_calls; // the calls of the unit
 mod frame_calls; // the calls on frames alone
+mod record_calls; // the call on trace records alone
 
 pub use frame_calls::mf_compose_event;
 pub use frame_calls::mf_compose_power;
 pub use frame_calls::mf_read;
 pub use frame_calls::mf_write;
+pub use record_calls::mf_census;
 pub use unit_calls::mf_check;
 pub use unit_calls::mf_compare;
 pub use unit_calls::mf_find;

@@ -1,1 +1,1 @@
-pub mod Class
+pub mod Mixed

@@ -1,73 +1,9 @@
 // Reads all 16,777,216 frames in order, and writes how many there are of each class, and a checksum of their words.
 ghost use mathlib.Core.Path.{_≡_};
 ghost use Prim.Native.Nat.{_<_};
-ghost use Rattle.sweep.specs.Class.{addressClass, eventClass, messageClass, refusedClass, classOf, mixed};
-use frames::Address;
-use frames::Message;
-use frames::Reading;
-use frames::Scheme;
+ghost use Rattle.sweep.specs.Mixed.{mixed};
 use libc::STDERR_FILENO;
 use libc::STDOUT_FILENO;
-
-fn address_class(address: Address) -> usize
-    ensures same { λ r. ⌜ r ≡ addressClass address ⌝ }
-    ensures small { λ r. ⌜ r < 16 ⌝ }
-{
-    match address {
-        Address::Short(_) => 0,
-        Address::Group(_) => 1,
-        Address::Unaddressed => 2,
-        Address::Broadcast => 3,
-    }
-}
-
-fn event_class(scheme: Scheme) -> usize
-    ensures same { λ r. ⌜ r ≡ eventClass scheme ⌝ }
-    ensures small { λ r. ⌜ r < 16 ⌝ }
-{
-    match scheme {
-        Scheme::TypeNumber => 7,
-        Scheme::ShortType => 8,
-        Scheme::ShortNumber => 9,
-        Scheme::GroupType => 10,
-        Scheme::PrimaryType => 11,
-    }
-}
-
-fn message_class(message: Message) -> usize
-    ensures same { λ r. ⌜ r ≡ messageClass message ⌝ }
-    ensures small { λ r. ⌜ r < 16 ⌝ }
-{
-    match message {
-        Message::Command(address, _, _) => address_class(address),
-        Message::Special(_, _, _) => 4,
-        Message::Event(scheme, _, _, _) => event_class(scheme),
-        Message::Power(_, _) => 12,
-    }
-}
-
-fn refused_class(number: u8) -> usize
-    ensures same { λ r. ⌜ r ≡ refusedClass number ⌝ }
-    ensures small { λ r. ⌜ r < 16 ⌝ }
-{
-    match number {
-        2 => 5,
-        3 => 6,
-        4 => 14,
-        5 => 13,
-        _ => 15,
-    }
-}
-
-fn class_of(reading: Reading) -> usize
-    ensures same { λ r. ⌜ r ≡ classOf reading ⌝ }
-    ensures small { λ r. ⌜ r < 16 ⌝ }
-{
-    match reading {
-        Reading::Got(message) => message_class(message),
-        Reading::Refused(number) => refused_class(number),
-    }
-}
 
 // Internal: one more of a class; there are far fewer frames than the counter can hold.
 fn count_one(counts: &mut [u64; 16], class: usize)
@@ -89,7 +25,7 @@ fn sweep(counts: &mut [u64; 16]) -> u64 {
     let mut checksum: u64 = 0;
     for frame in 0..16777216 {
         let reading = frames::read(frame);
-        count_one(counts, class_of(reading));
+        count_one(counts, census::class_of(reading));
         checksum = mix(checksum, words::word_of(reading));
     }
     checksum

@@ -1,7 +1,7 @@
 -- `sweep::mix` meets its contract.
 -- Assumes nothing.
 use borrow.Author.Needs.{needs}
-use Rattle.sweep.specs.Class.{mixed}
+use Rattle.sweep.specs.Mixed.{mixed}
 use native.Mathlib.Omega.{arith}
 use Rattle.sweep.proofs.mix.Statement.{statement}
 use Rattle.sweep.proofs.mix.Tie as tie
