@@ -1,11 +1,10 @@
 -- The capture that has all frames in their order: its records are these frames, each once, and none ends the count.
 -- Assumes nothing.
 use Prim.Native.Nat.{ℕ, zero, suc, _+_, _≤_, _<_}
-use mathlib.Core.Path.{_≡_, refl, ap, sym, _∙_}
+use mathlib.Core.Path.{_≡_, refl, ap, _∙_}
 use mathlib.Core.Bool.{false}
-use mathlib.Core.List.{List, [], _∷_, _++_}
+use mathlib.Core.List.{List, [], _++_}
 use native.Mathlib.Omega.{arith}
-use native.Mathlib.Nat.{not-suc-le-zero}
 use Rattle.laws.specs.Lists.{items, some}
 use borrow.Author.Tests.{eq-eqb, ne-eqb}
 use Rattle.laws.specs.Counts.{below, count}
@@ -15,7 +14,6 @@ use Rattle.entries.specs.declared.entry.Entry.{Entry}
 use Rattle.census.specs.Census.{nothing, entriesOf, censusOf}
 use Rattle.census.specs.Facts.{frameIs, isPowerOn, beforeEnd}
 use Rattle.census.specs.Figures.{figures, frameRecord, captureOf, AllFrames}
-use Rattle.census.specs.declared.counts.Census.{Census}
 use Rattle.census.proofs.Records.{one-then, none-are}
 use Rattle.census.proofs.Adds.{adds}
 use Rattle.census.proofs.Sliced.{census-is}

@@ -1,7 +1,7 @@
 -- A reader that is moved on from the begin stands behind so many records, or at the end, and meets what stands there.
 -- Assumes nothing.
-use Prim.Native.Nat.{ℕ, zero, suc, _+_, _*_, _≤_, _<_}
-use mathlib.Core.Path.{_≡_, refl, ap, sym, _∙_}
+use Prim.Native.Nat.{ℕ, zero, suc, _+_, _*_, _≤_}
+use mathlib.Core.Path.{_≡_, refl, ap, _∙_}
 use mathlib.Core.List.{List}
 use native.Mathlib.Omega.{arith}
 use native.Mathlib.Nat.{add-zero}
@@ -10,9 +10,8 @@ use lib.Seq.{getD-drop}
 use denote.Ref.{RefT, now}
 use Rattle.laws.proofs.Tests.{if-lt}
 use Rattle.entries.specs.Entry.{entryAt}
-use Rattle.census.specs.Reader.{restAt, nextAt, placeAfter, readerOf, movedOn, nextOf, moves, Reads, ReaderReads}
+use Rattle.census.specs.Reader.{restAt, nextAt, placeAfter, readerOf, movedOn, nextOf, moves, ReaderReads}
 use Rattle.census.specs.declared.next.Next.{Next}
-use Rattle.census.specs.declared.reader.Reader.{Reader}
 use Rattle.census.proofs.Places.{after-few, after-whole, next-whole, next-unfinished, next-end}
 
 -- i times the place behind, from the begin on

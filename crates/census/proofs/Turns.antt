@@ -9,14 +9,13 @@ use borrow.Author.Tests.{eqb-true, eqb-false, ltb-true, ltb-false}
 use lib.Dec.{eqb, ltb}
 use lib.ListN.{length, drop, length-drop, drop-of-length-le}
 use lib.Seq.{drop-drop}
-use Rattle.laws.proofs.Tests.{both, if-lt, if-eq}
+use Rattle.laws.proofs.Tests.{both, if-lt}
 use Rattle.entries.specs.Entry.{entryAt}
 use Rattle.entries.specs.declared.entry.Entry.{Entry}
 use Rattle.census.specs.Class.{frameClass}
 use Rattle.census.specs.Census.{sum, total, oneMore, counted, ended, countedAll, entriesOf}
 use Rattle.census.specs.Reader.{restAt, nextAt, placeAfter, goesOn, countedNext}
 use Rattle.census.specs.declared.counts.Census.{Census}
-use Rattle.census.specs.declared.next.Next.the-variants.{Whole, Unfinished}
 use Rattle.census.proofs.Places.{next-whole, next-unfinished, after-whole, after-few}
 use Rattle.census.proofs.Records.{first-then, few-are, none-are}
 use Rattle.census.proofs.Counted.{counted-none, counted-more, counted-ended, counted-broken}

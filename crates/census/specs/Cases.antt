@@ -9,7 +9,6 @@ use Rattle.census.specs.Class.{frameClass}
 use Rattle.census.specs.Census.{nothing, censusOf, addedTo}
 use Rattle.census.specs.Reader.{nextAt, placeAfter}
 use Rattle.census.specs.declared.counts.Census.{Census}
-use Rattle.census.specs.declared.next.Next.{Next}
 use Rattle.census.specs.declared.next.Next.the-variants.{Whole, Unfinished, End}
 
 -- a frame of each class, in their order

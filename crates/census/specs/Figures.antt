@@ -6,7 +6,6 @@ use Prim.Native.Nat.{ℕ, _/_, _%_, _<_}
 use lib.Dec.{eqb}
 use lib.ListN.{getD, take}
 use Rattle.laws.specs.Counts.{below, count}
-use Rattle.entries.specs.declared.entry.Entry.{Entry}
 use Rattle.census.specs.Class.{frameClass}
 use Rattle.census.specs.Census.{sum, entriesOf, censusOf}
 use Rattle.census.specs.Facts.{frameIs}

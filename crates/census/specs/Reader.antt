@@ -9,7 +9,6 @@ use lib.ListN.{length, drop}
 use denote.Ref.{RefT, now}
 use Rattle.laws.specs.Choice.{if_then_else_}
 use Rattle.entries.specs.Entry.{entryAt}
-use Rattle.entries.specs.declared.entry.Entry.{Entry}
 use Rattle.census.specs.Census.{counted, ended}
 use Rattle.census.specs.declared.counts.Census.{Census}
 use Rattle.census.specs.declared.next.Next.{Next}

@@ -3,7 +3,7 @@
 -- the reader of the next turn.
 -- Assumes nothing.
 use mathlib.Core.Path.{_≡_, sym, _∙_, ap, refl, subst}
-use mathlib.Core.Bool.{Bool, true, false}
+use mathlib.Core.Bool.{Bool, true}
 use Prim.Native.Nat.{ℕ, _<_, _^_, _-_}
 use native.Mathlib.Nat.{lt-of-le-of-lt}
 use mathlib.Core.WellFounded.{WellFounded, InvImage·wf}
