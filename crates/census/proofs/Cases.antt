@@ -12,7 +12,8 @@ use Rattle.census.specs.Reader.{nextAt, placeAfter}
 use Rattle.census.specs.Cases.{CensusCases}
 
 pub census-cases : CensusCases
-unfolding bits kindOf targetAt addressOf targetOf commandOf schemeOf fieldOf powerOf otherOf eventOf readOf entryOf entryAt refusedClass frameClass countedAll unfinished entriesOf censusOf addedTo nextAt placeAfter
+unfolding bits kindOf targetAt addressOf targetOf commandOf schemeOf fieldOf powerOf otherOf eventOf readOf entryOf entryAt
+    refusedClass frameClass countedAll unfinished entriesOf censusOf addedTo nextAt placeAfter
 census-cases =
     record {
       classes = refl;

@@ -1,6 +1,7 @@
--- Parts of a function's MIR, so that a walk with a loop need not write them: the type of a local, the environment, the pieces of a body; and what a branch says of its test.
--- It says nothing of the crate.
--- Of `seq s₁ (.. (seq (block (loop turn)) rest))`, `tail-of` goes one statement on, `inside (inside (head-of ..))` is the turn and `tail-of ..` the rest.
+-- Parts of a function's MIR, so that a walk with a loop need not write them: the type of a local, the environment, the pieces of
+-- a body; and what a branch says of its test. It says nothing of the crate. Assumes nothing.
+-- Of `seq s₁ (.. (seq (block (loop turn)) rest))`, `tail-of` goes one statement on, `inside (inside (head-of ..))` is the turn
+-- and `tail-of ..` the rest.
 use Prim.Native.Nat.{ℕ, zero, suc}
 use mathlib.Core.Path.{_≡_, refl}
 use mathlib.Core.Bool.{Bool, true, false, not}

@@ -27,7 +27,8 @@ pub counts-fit : (c : Census) → HasRoom c → (length (c .counts) ≡ 15) × (
 counts-fit c room = let some = room .1 in (room .0, omega arith)
 
 -- a frame, by its class
-pub in-class : (c : Census) (frame class : ℕ) (counts : List ℕ) → class ≡ classOf (readOf frame) → counts ≡ oneMore class (c .counts)
+pub in-class : (c : Census) (frame class : ℕ) (counts : List ℕ) → class ≡ classOf (readOf frame)
+    → counts ≡ oneMore class (c .counts)
     → record { counts = counts; «power_ons» = c .«power_ons»; number = c .number } ≡ withFrame c frame
 unfolding frameClass
 in-class c frame class counts e more = rw (more, e)

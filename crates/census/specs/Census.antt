@@ -16,7 +16,7 @@ use Rattle.census.specs.declared.counts.Census.{Census}
 abbrev pub nothing : Census
 nothing = record { counts = replicate 15 0; «power_ons» = 0; number = 0 }
 
--- how many numbers a list adds up to
+-- what the numbers of a list add up to
 abbrev pub sum : List ℕ → ℕ
 sum [] = 0
 sum (n ∷ ns) = n + sum ns

@@ -1,4 +1,5 @@
--- A capture and a place in it. Paper 02, Item 7: "The reader keeps the capture and its place together". Proved in proofs/: ReadOn.
+-- A capture and a place in it. Paper 02, Item 7: "The reader keeps the capture and its place together". Its statement is proved
+-- in proofs/ReadOn.antt.
 -- Assumes nothing.
 use Prim.Native.Nat.{ℕ, zero, suc, _+_, _-_, _*_, _≤_, _<_}
 use mathlib.Core.Path.{_≡_}
