@@ -24,8 +24,8 @@ pub fn nothing() -> Census
     }
 }
 
-// Internal: one more of a class, and every other count as it was. Every count is written anew: that costs less than to write
-// one of them, which the next record would have to wait for.
+// Internal: one more of a class, and every other count as it was. Every count is written anew: measured, that takes less time
+// than to write the one (docs/DECISIONS.md, 95).
 fn one_more(counts: [u64; 15], class: usize) -> [u64; 15]
     requires { ⌜ (length counts ≡ 15) × (sum counts < 2 ^ 61) ⌝ }
     ensures { λ r. ⌜ r ≡ oneMore class counts ⌝ }
