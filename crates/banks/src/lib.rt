@@ -1,4 +1,6 @@
 // A map with its store and reset image: the rules 10 and 11, a value's part, lock bytes.
+#![tactic(auto)]
+
 mod rules; // the rules 10 and 11, and the number
 mod lock; // a bank's lock byte
 mod parts; // a value's part of the store

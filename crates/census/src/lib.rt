@@ -1,4 +1,6 @@
 // Count what the wire carried: the records of a capture, by class.
+#![tactic(auto)]
+
 mod classes; // the class of a frame
 mod counts; // the census so far, and one record more
 mod next; // what stands at a place of a capture

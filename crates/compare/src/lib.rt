@@ -1,4 +1,6 @@
 // Compare two images: one map, two stores, and a list of the values that differ.
+#![tactic(auto)]
+
 mod differing; // which values differ, and how many
 mod listing; // the list, 24 bytes for each
 mod compared; // number and count, and the list over the output

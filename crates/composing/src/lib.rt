@@ -1,4 +1,6 @@
 // Events and power events, composed.
+#![tactic(auto)]
+
 mod source; // what an event is composed from
 mod composer; // from a source to a frame
 

@@ -1,6 +1,8 @@
 // Which values of a map differ between two stores, in words or as the list's bytes. On standard
 // input a byte, 0 for words and 1 for bytes; the lengths of map, old store and new store, two bytes
 // each, high first; and the three themselves.
+#![tactic(auto)]
+
 mod words; // a difference, and how many there are
 
 ghost use Rattle.std.specs.Prelude.{◌≤◌, length};

@@ -1,5 +1,7 @@
 // Shows a capture of the unit of the working folder in words: each record, what it did, and the values that it changed;
 // last the values before and after. What it refuses, it leaves to the trace program to say.
+#![tactic(auto)]
+
 mod files; // what it starts from
 mod capture; // record by record
 

@@ -1,4 +1,6 @@
 // What the C calls do, on numbers and byte slices, and a state as 96 bytes. `mirtofalko` exports these under C names.
+#![tactic(auto)]
+
 mod answers; // an answer as one number
 mod unit_calls; // the calls of the unit
 mod frame_calls; // the calls on frames alone

@@ -1,5 +1,7 @@
 // Which value of a map holds a location, or why none does, and how many records were examined, in words. On standard input the
 // bank and the location, two bytes each, high first, and the map behind them.
+#![tactic(auto)]
+
 use libc::{STDERR_FILENO, STDIN_FILENO, STDOUT_FILENO};
 use places::{say_examined, say_found};
 use records::{Found, records};

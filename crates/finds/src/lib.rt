@@ -1,4 +1,6 @@
 // The find calls: which value holds a location, or why none does, and how many records were examined.
+#![tactic(auto)]
+
 mod found; // number, answer and count
 mod worded; // as one number, for banks and locations of any size
 

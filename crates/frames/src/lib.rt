@@ -1,4 +1,6 @@
 // What 24 bits say: forward frames and events, read and written.
+#![tactic(auto)]
+
 mod message; // the types
 mod values; // the number and the value of a target, a scheme and a field
 mod kinds; // the table of kinds

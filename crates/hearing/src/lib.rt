@@ -1,4 +1,6 @@
 // Who a frame is for, what it asks, and what makes a pair.
+#![tactic(auto)]
+
 mod heard; // the types of what is heard
 mod meaning; // the types of what it means
 mod listed; // the listed commands, by their numbers

@@ -1,6 +1,8 @@
 // What the wire carried: the records of a capture on standard input, counted by class. The first
 // byte of the input says how they are written, 0 in words and 1 as bytes; the capture is all that
 // stands behind it.
+#![tactic(auto)]
+
 mod bars; // a count, as a part of the largest
 mod input; // slice after slice
 mod table; // the counts in words

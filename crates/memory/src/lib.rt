@@ -1,4 +1,6 @@
 // One value at a time: an executed write with staging, READ with the latch, reset and power-on of the store.
+#![tactic(auto)]
+
 mod staged; // an executed write
 mod latched; // READ and the latch
 mod filled; // reset and power-on

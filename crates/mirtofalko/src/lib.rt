@@ -1,5 +1,7 @@
 // The face to C: each call forwards to the call of `faces` that does its work, since an archive exports only its own
 // crate's functions.
+#![tactic(auto)]
+
 mod unit_calls; // the calls of the unit
 mod frame_calls; // the calls on frames alone
 mod record_calls; // the call on trace records alone

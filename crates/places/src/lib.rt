@@ -1,4 +1,6 @@
 // What stands at a location, in words: the value that holds it, or why none does; and how many records were examined.
+#![tactic(auto)]
+
 mod placed; // a sentence for each answer
 mod examined; // and for its count
 

@@ -1,4 +1,6 @@
 // A map by itself: its records, the rules 7 to 9, look-up.
+#![tactic(auto)]
+
 mod record; // a record of the map
 mod order; // the rules 7 to 9
 mod holder; // which record holds a location or why none does, which value begins there

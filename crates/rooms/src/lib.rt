@@ -1,4 +1,6 @@
 // The unit's state in rooms, its rules, and what a frame makes happen.
+#![tactic(auto)]
+
 mod state; // the rooms, one setter for each
 mod reply; // what a call hands back
 mod rules; // 12: the rules of a state

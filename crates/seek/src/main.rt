@@ -1,5 +1,7 @@
 // For the bench: look-ups without checks. Every location of each record's bank, 64 times over, in the map on standard input;
 // writes how many were found, and a checksum of what was found.
+#![tactic(auto)]
+
 ghost use Rattle.std.specs.Prelude.{◌≡◌, true};
 ghost use Rattle.records.specs.Order.{ordered};
 

@@ -2,6 +2,8 @@
 // 0 for words and 1 for records; the unit's short address, the bank, the value's first location,
 // the length of the map and the number of the value's bytes, two bytes each, high first; the map;
 // and the bytes.
+#![tactic(auto)]
+
 mod frame; // a frame, as a line or as a record
 mod printed; // a line, with its end, to a descriptor
 

@@ -1,4 +1,6 @@
 // A session: the frames that write a value.
+#![tactic(auto)]
+
 mod answer; // number, count and frames
 mod messages; // the three messages, as frames
 mod writer; // the tests, and the frames one after the other

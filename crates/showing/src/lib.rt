@@ -1,4 +1,6 @@
 // A capture in lines: the unit's own start and steps, and a page of lines for each.
+#![tactic(auto)]
+
 mod seen; // the store as it was
 mod taken; // a start and a step, by the unit
 mod page; // lines one after the other

@@ -1,4 +1,6 @@
 // Reads all 16,777,216 frames in order, and writes how many there are of each class, and a checksum of their words.
+#![tactic(auto)]
+
 ghost use Rattle.std.specs.Prelude.{◌≡◌, ◌<◌};
 ghost use Rattle.sweep.specs.Mixed.{mixed};
 

@@ -1,4 +1,6 @@
 // What a record of a capture says, asks and did, in words, as the unit's states before and after it show.
+#![tactic(auto)]
+
 mod column; // what it did has a column of its own
 mod changes; // room by room
 mod reach; // where a read or a write goes, and why nothing stands there

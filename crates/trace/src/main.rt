@@ -1,5 +1,7 @@
 // Traces the unit of the working folder: reads its files, and records on standard input; writes what it answers, and
 // the store.
+#![tactic(auto)]
+
 mod files; // what it starts from
 mod input; // record after record
 
