@@ -10,5 +10,5 @@ mod writer; // from a message to a frame
 
 pub use message::{Address, Field, Message, Reading, Scheme, Target, Targeted, Writing};
 pub use reader::{aimed_at, read};
-pub use values::{field_present, field_value, scheme_at, target_at_lem, target_number};
+pub use values::{field_present, field_value, scheme_at, target_at, target_number};
 pub use writer::write;

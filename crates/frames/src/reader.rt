@@ -43,7 +43,7 @@ fn address_of(byte: u8) -> Addressed
 fn target_of(byte: u8) -> Targeted
     ensures { result ≡ target_of byte }
 {
-    target_at_lem(kind(byte), byte % BYTE_BITS_5)
+    target_at(kind(byte), byte % BYTE_BITS_5)
 }
 
 pub fn aimed_at(address: Address, targeted: Targeted, opcode: u8) -> Reading

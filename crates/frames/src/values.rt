@@ -22,7 +22,7 @@ pub fn target_number(target: Target) -> u8
     }
 }
 
-pub fn target_at_lem(kind: u8, number: u8) -> Targeted
+pub fn target_at(kind: u8, number: u8) -> Targeted
     ensures { result ≡ target_at kind number }
 {
     match kind {

@@ -32,5 +32,6 @@ module _ {A : Type 0} (item : ℕ → A) where
 
 -- what every item passes, a member passes
 pub every_at : {A : Type 0} (f : A → Bool) (xs : List A) → every f xs ≡ true → (x : A) → Memᴰ x xs → f x ≡ true
+every_at f [] e x x4 = elim x4 [ ]
 every_at f (y ∷ xs) e x (Memᴰ.head p) = ap f p ∙ (both (f y) (every f xs) e).0
 every_at f (y ∷ xs) e x (Memᴰ.tail i) = every_at f xs (both (f y) (every f xs) e).1 x i

@@ -31,6 +31,7 @@ module _ {A : Type 0} where
       (either (f x) (some f xs) e)
 
   pub some_of : (f : A → Bool) (xs : List A) (x : A) → Memᴰ x xs → f x ≡ true → some f xs ≡ true
+  some_of f [] x x4 t = elim x4 [ ]
   some_of f (y ∷ xs) x (Memᴰ.head p) t = or_left (f y) (some f xs) (ap f (sym p) ∙ t)
   some_of f (y ∷ xs) x (Memᴰ.tail m) t = or_right (f y) (some f xs) (some_of f xs x m t)
 

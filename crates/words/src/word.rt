@@ -7,7 +7,7 @@ use crate::values::{
     address_at, address_kind, address_number, field_at, scheme_number, target_kind,
 };
 use frames::{
-    Message, Reading, aimed_at, field_present, field_value, scheme_at, target_at_lem, target_number,
+    Message, Reading, aimed_at, field_present, field_value, scheme_at, target_at, target_number,
 };
 
 // Places: BYTE_n is what byte number n of the word counts for, the low byte being number 0; BYTE is how many numbers a
@@ -103,7 +103,7 @@ fn message_at(kind: u8, a: u8, b: u8, c: u8, d: u8, e: u8) -> Reading
     ensures { result ≡ message_at kind a b c d e }
 {
     if kind == 0 {
-        return aimed_at(address_at(a, b), target_at_lem(c, d), e);
+        return aimed_at(address_at(a, b), target_at(c, d), e);
     }
     if kind == 1 {
         return Reading::Got(Message::Special(a, b, c));

@@ -10,4 +10,4 @@ unfolding target_of
 target_of_spec = tie.close (tie.spec
     (λ c κs. search rules)
     (λ c κs. search rules)
-    (λ c. simp (← c.before.kind.ensures) c.target_at_lem.ensures))
+    (λ c. simp (← c.before.kind.ensures) c.target_at.ensures))

@@ -2,9 +2,9 @@
 -- Assumes nothing.
 use borrow.Author.Rules.{rules}
 use Rattle.laws.proofs.Tests.{tests}
-use Rattle.frames.proofs.values.target_at_lem.Statement.{statement}
+use Rattle.frames.proofs.values.target_at.Statement.{statement}
 use Rattle.frames.specs.Values.{target_at}
-use Rattle.frames.proofs.values.target_at_lem.Tie as tie
+use Rattle.frames.proofs.values.target_at.Tie as tie
 
 pub target_at_spec : {M : Type 1} → statement M
 unfolding target_at

@@ -12,7 +12,7 @@ returns c =
     simp (
       c.before.before.before.if1.true,
       ← c.before.before.address_at_lem.ensures,
-      ← c.before.target_at_lem.ensures,
+      ← c.before.target_at.ensures,
     ) c.aimed-at.ensures
 
 pub message_at_spec : {M : Type 1} → statement M
