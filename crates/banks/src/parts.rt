@@ -5,6 +5,7 @@ ghost use Rattle.banks.specs.Values.{put_value, padded};
 use records::{Record, places_end};
 
 // Internal: the part takes the bytes, as many as it has room for.
+#[tactic(auto, using(laws::proofs::Copies::copy_more, laws::proofs::Copies::copy_full))]
 fn put_part(part: &mut [u8], bytes: &[u8])
     requires { length part.old ≤ length bytes.now }
     ensures { part.new ≡ take (length part.old) bytes.now }
@@ -17,6 +18,7 @@ fn put_part(part: &mut [u8], bytes: &[u8])
 }
 
 // Internal: the value's bytes are put at its place in the store.
+#[tactic(auto, using(laws::proofs::Copies::put_back), unfolding(crate::specs::Values::put_value))]
 pub fn put_value(store: &mut [u8], r: Record, bytes: &[u8])
     requires { (r.offset + r.width ≤ length store.old) × (r.width ≤ length bytes.now) }
     ensures { store.new ≡ put_value r (take r.width bytes.now) store.old }
@@ -27,6 +29,7 @@ pub fn put_value(store: &mut [u8], r: Record, bytes: &[u8])
 }
 
 // Internal: the bytes of the part, and zeros behind them.
+#[tactic(auto, using(laws::proofs::Copies::copy_more, laws::proofs::Copies::copy_all))]
 pub fn padded_part(part: &[u8]) -> [u8; 8]
     requires { length part.now ≤ 8 }
     ensures { result ≡ padded part.now }

@@ -15,6 +15,7 @@ use records::{
 };
 
 // 10, of the lengths of store and image.
+#[tactic(auto, unfolding(crate::specs::Rules::lengths_hold))]
 fn lengths_hold(n: usize, size: usize) -> bool
     ensures { result ≡ lengths_hold n size }
 {
@@ -30,6 +31,7 @@ fn is_inside(r: Record, n: usize) -> bool
 }
 
 // 10.
+#[tactic(auto, using(records::proofs::Walk::from, records::proofs::Walk::at_start, records::proofs::Walk::at_end, records::proofs::Walk::every_stops, records::proofs::Walk::every_goes_on))]
 fn all_inside(map: &[u8], n: usize) -> bool
     ensures { result ≡ every (inside n) (records_of map.now) }
 {
@@ -55,6 +57,7 @@ fn are_clear(p: Record, r: Record) -> bool
 }
 
 // 10, of the place of p and those of the records from number `from` on.
+#[tactic(auto, using(records::proofs::Walk::from, records::proofs::Walk::at_end, records::proofs::Walk::every_stops, records::proofs::Walk::every_goes_on))]
 fn is_clear_of(map: &[u8], p: Record, from: usize) -> bool
     ensures { result ≡ every (clear p) (records_from map.now from) }
 {
@@ -71,6 +74,7 @@ fn is_clear_of(map: &[u8], p: Record, from: usize) -> bool
 }
 
 // 10.
+#[tactic(auto, using(records::proofs::Walk::from, records::proofs::Walk::at_start, records::proofs::Walk::at_end, crate::proofs::Places::disjoint_stops, crate::proofs::Places::disjoint_goes_on))]
 fn are_disjoint(map: &[u8]) -> bool
     ensures { result ≡ disjoint (records_of map.now) }
 {
@@ -87,6 +91,7 @@ fn are_disjoint(map: &[u8]) -> bool
 }
 
 // 10.
+#[tactic(auto, unfolding(crate::specs::Rules::places_hold))]
 fn places_hold(map: &[u8], n: usize, size: usize) -> bool
     ensures { result ≡ places_hold (records_of map.now) n size }
 {
@@ -109,6 +114,7 @@ pub fn is_lock(r: Record) -> bool
 }
 
 // 11, the record at 0x00. Internal: the map has passed 7, 8 and 9, so the look-up finds the one record that can be it.
+#[tactic(auto, using(crate::proofs::HeadsAndLocks::single_head, crate::proofs::HeadsAndLocks::has_at, crate::proofs::HeadsAndLocks::has_none))]
 fn has_head(map: &[u8], bank: u8) -> bool
     requires { ordered map.now ≡ true }
     ensures { result ≡ bank_has is_head (records_of map.now) bank }
@@ -120,6 +126,7 @@ fn has_head(map: &[u8], bank: u8) -> bool
 }
 
 // 11, the lock byte. Internal, as above.
+#[tactic(auto, using(crate::proofs::HeadsAndLocks::single_lock, crate::proofs::HeadsAndLocks::has_at, crate::proofs::HeadsAndLocks::has_none))]
 fn has_lock(map: &[u8], bank: u8) -> bool
     requires { ordered map.now ≡ true }
     ensures { result ≡ bank_has is_lock (records_of map.now) bank }
@@ -131,6 +138,7 @@ fn has_lock(map: &[u8], bank: u8) -> bool
 }
 
 // 11, what the map itself must have, for the bank of one record. Internal, as above.
+#[tactic(auto, unfolding(crate::specs::Rules::bank_holds))]
 fn bank_holds(map: &[u8], r: Record) -> bool
     requires { ordered map.now ≡ true }
     ensures { result ≡ bank_holds (records_of map.now) r }
@@ -145,6 +153,7 @@ fn bank_holds(map: &[u8], r: Record) -> bool
 }
 
 // 11, what the map itself must have. Internal, as above.
+#[tactic(auto, using(records::proofs::Walk::from, records::proofs::Walk::at_start, records::proofs::Walk::at_end, records::proofs::Walk::every_stops, records::proofs::Walk::every_goes_on), unfolding(crate::specs::Rules::banks_hold))]
 fn banks_hold(map: &[u8]) -> bool
     requires { ordered map.now ≡ true }
     ensures { result ≡ banks_hold (records_of map.now) }
@@ -168,6 +177,7 @@ fn ends_by(r: Record, bank: u8, last: u8) -> bool
     !(r.bank == bank) | (end <= last as usize + 1)
 }
 
+#[tactic(auto, using(records::proofs::Walk::from, records::proofs::Walk::at_start, records::proofs::Walk::at_end, records::proofs::Walk::every_stops, records::proofs::Walk::every_goes_on))]
 fn all_end_by(map: &[u8], bank: u8, last: u8) -> bool
     ensures { result ≡ every (ends_by bank last) (records_of map.now) }
 {
@@ -184,6 +194,7 @@ fn all_end_by(map: &[u8], bank: u8, last: u8) -> bool
 }
 
 // 11, of a bank's stored byte at 0x00.
+#[tactic(auto, unfolding(crate::specs::Rules::head_byte_holds))]
 fn head_byte_holds(map: &[u8], bank: u8, byte: u8) -> bool
     ensures { result ≡ head_byte_holds (records_of map.now) bank byte }
 {
@@ -193,6 +204,7 @@ fn head_byte_holds(map: &[u8], bank: u8, byte: u8) -> bool
 }
 
 // 11, of one record. Internal: its place lies in the store.
+#[tactic(auto, using(crate::proofs::HeadsAndLocks::single_head), unfolding(crate::specs::Rules::head_holds))]
 fn head_holds(map: &[u8], store: &[u8], r: Record) -> bool
     requires { places_end r ≤ length store.now }
     ensures { result ≡ head_holds (records_of map.now) store.now r }
@@ -205,6 +217,7 @@ fn head_holds(map: &[u8], store: &[u8], r: Record) -> bool
 }
 
 // 11, the stored bytes at 0x00. Internal: map and store have passed 7 to 10.
+#[tactic(auto, using(records::proofs::Walk::from, records::proofs::Walk::at_start, records::proofs::Walk::at_end, records::proofs::Walk::member, records::proofs::Walk::every_stops, records::proofs::Walk::every_goes_on, crate::proofs::Places::member_inside), unfolding(crate::specs::Rules::head_bytes_hold))]
 fn head_bytes_hold(map: &[u8], store: &[u8]) -> bool
     requires { placed map.now (length store.now) ≡ true }
     ensures { result ≡ head_bytes_hold (records_of map.now) store.now }
@@ -222,6 +235,7 @@ fn head_bytes_hold(map: &[u8], store: &[u8]) -> bool
 }
 
 // The number of 10, or 0.
+#[tactic(auto, using(laws::proofs::Sides::failed, laws::proofs::Sides::passed), unfolding(laws::specs::Numbers::first_failing))]
 fn place_number(map: &[u8], n: usize, size: usize) -> u8
     ensures { result ≡ first_failing (place_tests map.now n size) }
 {
@@ -232,6 +246,7 @@ fn place_number(map: &[u8], n: usize, size: usize) -> u8
 }
 
 // Internal: the number of 11, or 0. Map and store have passed 7 to 10.
+#[tactic(auto, using(laws::proofs::Sides::failed, laws::proofs::Sides::passed, crate::proofs::Places::placed_ordered), unfolding(laws::specs::Numbers::first_failing))]
 fn bank_number(map: &[u8], store: &[u8]) -> u8
     requires { placed map.now (length store.now) ≡ true }
     ensures { result ≡ first_failing (bank_tests map.now store.now) }
@@ -246,6 +261,7 @@ fn bank_number(map: &[u8], store: &[u8]) -> u8
 }
 
 // Internal: the number of map, store and an image of `size` bytes, for those who have no image at hand.
+#[tactic(auto, using(records::proofs::Ordered::zero_ordered, crate::proofs::Standing::zero_placed, crate::proofs::Standing::order_first, crate::proofs::Standing::place_next, crate::proofs::Standing::bank_last))]
 pub fn check_number(map: &[u8], store: &[u8], size: usize) -> u8
     ensures { result ≡ check_number map.now store.now size }
 {

@@ -42,6 +42,7 @@ fn message_class(message: Message) -> usize
     }
 }
 
+#[tactic(auto, using(laws::proofs::Tests::tests), unfolding(crate::specs::Class::refused_class))]
 fn refused_class(number: u8) -> usize
     ensures same { result ≡ refused_class number }
     ensures small { result < 16 }

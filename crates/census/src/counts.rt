@@ -7,7 +7,7 @@ use crate::classes::class_of;
 use entries::Entry;
 
 // How many frame records there are of each class, and power-on records apart. The number is 13 where a record ended the count.
-#[derive(Drop)]
+#[derive(Clone, Copy)]
 pub struct Census {
     pub counts: [u64; 15],
     pub power_ons: u64,
@@ -26,6 +26,7 @@ pub fn nothing() -> Census
 
 // Internal: one more of a class, and every other count as it was. Every count is written anew: measured, that takes less time
 // than to write the one (docs/DECISIONS.md, 95).
+#[tactic(auto, using(crate::proofs::Room::one_fits, crate::proofs::Filled::filled_none, crate::proofs::Filled::filled_more, crate::proofs::Filled::filled_all, crate::proofs::Filled::more_is))]
 fn one_more(counts: [u64; 15], class: usize) -> [u64; 15]
     requires { (length counts ≡ 15) × (sum counts < 2 ^ 61) }
     ensures { result ≡ one_more class counts }
@@ -40,6 +41,7 @@ fn one_more(counts: [u64; 15], class: usize) -> [u64; 15]
 }
 
 // Internal: a frame more, in its class.
+#[tactic(auto, using(crate::proofs::Room::counts_fit, crate::proofs::Room::in_class))]
 fn with_frame(census: Census, frame: u32) -> Census
     requires { HasRoom census }
     ensures { result ≡ with_frame census frame }

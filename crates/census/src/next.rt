@@ -7,7 +7,7 @@ use crate::counts::{Census, counted, ended};
 use entries::{Entry, entry_at};
 
 // A whole record, fewer than 8 bytes, or nothing more.
-#[derive(Drop)]
+#[derive(Clone, Copy)]
 pub enum Next {
     Whole(Entry),
     Unfinished,
@@ -21,6 +21,7 @@ pub fn rest_at(long: usize, at: usize) -> usize
     if at < long { long - at } else { 0 }
 }
 
+#[tactic(auto, using(crate::proofs::Places::nothing_stands, crate::proofs::Places::few_stand, crate::proofs::Places::record_stands))]
 pub fn next_at(capture: &[u8], at: usize) -> Next
     ensures { result ≡ next_at capture.now at }
 {
@@ -35,6 +36,7 @@ pub fn next_at(capture: &[u8], at: usize) -> Next
     Next::Whole(entry_at(&capture[at..long], 0))
 }
 
+#[tactic(auto, using(crate::proofs::Places::behind_few, crate::proofs::Places::behind_record))]
 pub fn place_after(long: usize, at: usize) -> usize
     ensures { result ≡ place_after long at }
 {
@@ -43,6 +45,7 @@ pub fn place_after(long: usize, at: usize) -> usize
 }
 
 // Whether the count goes on: no number has ended it, and something stands there.
+#[tactic(auto, using(laws::proofs::Tests::tests))]
 pub fn goes_on(number: u8, rest: usize) -> bool
     ensures { result ≡ goes_on number rest }
 {

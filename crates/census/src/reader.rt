@@ -3,7 +3,7 @@ ghost use Rattle.census.specs.Promises.{NewPromise, EntryPromise, MovedPromise, 
 
 use crate::next::{Next, next_at, place_after, rest_at};
 
-#[derive(Drop)]
+#[derive(Clone, Copy)]
 pub struct Reader<'a> {
     pub capture: &'a [u8],
     pub at: usize,

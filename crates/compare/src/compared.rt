@@ -9,7 +9,7 @@ use crate::listing::put_list;
 use banks::check;
 
 // The number of a comparison, and how many values differ; a refusal has no count.
-#[derive(Drop)]
+#[derive(Clone, Copy)]
 pub struct Compared {
     pub number: u8,
     pub count: u8,
@@ -25,6 +25,7 @@ fn refused(number: u8) -> Compared
 }
 
 // 7 to 11 for the first store, then for the second, each with the other in the image's place.
+#[tactic(auto, using(crate::proofs::Numbered::first_refuses, crate::proofs::Numbered::second_says))]
 fn both_number(map: &[u8], old: &[u8], new: &[u8]) -> u8
     ensures { result ≡ first_failing (both_tests map.now old.now new.now) }
 {
@@ -36,6 +37,7 @@ fn both_number(map: &[u8], old: &[u8], new: &[u8]) -> u8
 }
 
 // The list of the values that differ, over the output; the count is known before anything is written.
+#[tactic(auto, using(crate::proofs::Numbered::zero_both_placed, crate::proofs::Numbered::few, crate::proofs::Numbered::number_refused, crate::proofs::Numbered::number_15, crate::proofs::Numbered::number_0, crate::proofs::Numbered::refuses, crate::proofs::Numbered::lists))]
 pub fn compare(map: &[u8], old: &[u8], new: &[u8], output: &mut [u8]) -> Compared
     ensures { ComparePromise map.now old.now new.now output.old
         result output.new }

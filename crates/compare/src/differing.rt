@@ -6,6 +6,7 @@ ghost use Rattle.compare.specs.Compare.{same, differs, differing, BothPlaced};
 use records::{Record, places_end, record_at, records};
 
 // Internal: of two parts of one length.
+#[tactic(auto, using(crate::proofs::Same::same_stops, crate::proofs::Same::same_goes_on, crate::proofs::Same::same_all))]
 fn is_same(old: &[u8], new: &[u8]) -> bool
     requires { length new.now ≡ length old.now }
     ensures { result ≡ same old.now new.now }
@@ -21,6 +22,7 @@ fn is_same(old: &[u8], new: &[u8]) -> bool
 }
 
 // Internal: the value's place lies in both stores.
+#[tactic(auto, using(laws::proofs::Copies::lent), unfolding(crate::specs::Compare::differs, banks::specs::Values::value_of))]
 pub fn is_different(old: &[u8], new: &[u8], r: Record) -> bool
     requires { (places_end r ≤ length old.now) × (places_end r ≤ length new.now) }
     ensures { result ≡ differs old.now new.now r }
@@ -31,6 +33,7 @@ pub fn is_different(old: &[u8], new: &[u8], r: Record) -> bool
 }
 
 // Internal: how many values differ. Map and first store have passed 7 to 10, and the second is as long.
+#[tactic(auto, using(records::proofs::Walk::member, crate::proofs::Listed::in_both, crate::proofs::Listed::rest, crate::proofs::Listed::rest_start, crate::proofs::Listed::rest_end, crate::proofs::Listed::bool_byte, crate::proofs::Listed::counted_more))]
 pub fn count_differing(map: &[u8], old: &[u8], new: &[u8]) -> usize
     requires { BothPlaced map.now old.now new.now }
     ensures { result ≡ length (differing map.now old.now new.now) }

@@ -10,6 +10,7 @@ use banks::padded_part;
 use records::{Record, places_end, record_at, records};
 
 // Internal: eight bytes, from a place of the output on.
+#[tactic(auto, using(crate::proofs::Written::paste_more, crate::proofs::Written::paste_all))]
 fn put_eight(output: &mut [u8], at: usize, bytes: [u8; 8])
     requires { at + 8 ≤ length output.old }
     ensures { output.new ≡ put at bytes output.old }
@@ -22,6 +23,7 @@ fn put_eight(output: &mut [u8], at: usize, bytes: [u8; 8])
 }
 
 // Internal: the value's bytes, zero filled at the end.
+#[tactic(auto, using(laws::proofs::Copies::lent), unfolding(banks::specs::Values::value_of))]
 fn value_bytes(store: &[u8], r: Record) -> [u8; 8]
     requires { (places_end r ≤ length store.now) × (r.width ≤ 8) }
     ensures { result ≡ padded (value_of r store.now) }
@@ -32,6 +34,7 @@ fn value_bytes(store: &[u8], r: Record) -> [u8; 8]
 }
 
 // Internal: bank, first location, width, kind, four zeros, old bytes, new bytes.
+#[tactic(auto, using(crate::proofs::Written::put_three), unfolding(crate::specs::Compare::difference_of))]
 fn put_difference(output: &mut [u8], at: usize, r: Record, old: &[u8], new: &[u8])
     requires { (at + 24 ≤ length output.old) × InBoth r old.now new.now }
     ensures { output.new ≡ put at (difference_of old.now new.now r) output.old }
@@ -44,6 +47,7 @@ fn put_difference(output: &mut [u8], at: usize, r: Record, old: &[u8], new: &[u8
 }
 
 // Internal: the difference of the value, if it differs. Answers the place behind what is written.
+#[tactic(auto, using(crate::proofs::Listed::is_listed, crate::proofs::Listed::is_not_listed, crate::proofs::Listed::length_difference), unfolding(laws::specs::Parts::put))]
 fn put_if(output: &mut [u8], at: usize, r: Record, old: &[u8], new: &[u8]) -> usize
     requires { (at + length (difference_if old.now new.now r) ≤ length output.old) × InBoth r old.now new.now }
     ensures end { result ≡ at + length (difference_if old.now new.now r) }
@@ -57,6 +61,7 @@ fn put_if(output: &mut [u8], at: usize, r: Record, old: &[u8], new: &[u8]) -> us
 }
 
 // Internal: the list, over the output, which has room for it. Map and first store have passed 7 to 10, and the second is as long.
+#[tactic(auto, using(records::proofs::Walk::member, crate::proofs::Written::as_long, crate::proofs::Listed::in_both, crate::proofs::Turns::begins, crate::proofs::Turns::has_room, crate::proofs::Turns::next, crate::proofs::Turns::ends))]
 pub fn put_list(map: &[u8], old: &[u8], new: &[u8], output: &mut [u8])
     requires { BothPlaced map.now old.now new.now
         × (24 * length (differing map.now old.now new.now) ≤ length output.old) }

@@ -7,6 +7,7 @@ ghost use Rattle.composing.specs.Promises.{ComposeEventPromise, ComposePowerProm
 use crate::source::Source;
 use frames::{Field, Message, Scheme, Writing, scheme_at, write};
 
+#[tactic(auto, using(laws::proofs::Tests::tests), unfolding(crate::specs::Compose::or_missing))]
 fn or_missing(value: u8, limit: u8) -> bool
     ensures { result ≡ or_missing value limit }
 {
@@ -16,6 +17,7 @@ fn or_missing(value: u8, limit: u8) -> bool
     value == 255
 }
 
+#[tactic(auto, using(laws::proofs::Tests::denied, laws::proofs::Tests::not_denied, laws::proofs::Tests::tests), unfolding(crate::specs::Compose::source_fits))]
 fn source_fits(source: Source) -> bool
     ensures { result ≡ source_fits source }
 {
@@ -38,6 +40,7 @@ fn source_fits(source: Source) -> bool
 }
 
 // The scheme as shipped is this one number.
+#[tactic(auto, using(laws::proofs::Tests::tests), unfolding(crate::specs::Compose::shipped_of))]
 fn shipped(scheme: u8) -> u8
     ensures { result ≡ shipped_of scheme }
 {
@@ -47,6 +50,7 @@ fn shipped(scheme: u8) -> u8
     scheme
 }
 
+#[tactic(auto, using(laws::proofs::Tests::tests), unfolding(crate::specs::Compose::or_blank))]
 fn or_blank(value: u8) -> Field
     ensures { result ≡ or_blank value }
 {
@@ -56,6 +60,7 @@ fn or_blank(value: u8) -> Field
     Field::Holds(value)
 }
 
+#[tactic(auto, using(laws::proofs::Tests::tests), unfolding(crate::specs::Compose::lowest_group))]
 fn lowest_group(groups: u32) -> Field
     ensures { result ≡ lowest_group groups }
 {
@@ -112,12 +117,14 @@ fn event_as(scheme: Scheme, source: Source) -> Message
     event_with(first_carried(scheme, source), scheme, source)
 }
 
+#[tactic(auto, unfolding(crate::specs::Compose::event_by))]
 fn event_by(source: Source) -> Message
     ensures { result ≡ event_by source }
 {
     event_as(scheme_at(shipped(source.scheme)), source)
 }
 
+#[tactic(auto, unfolding(crate::specs::Compose::compose_of))]
 pub fn compose_event(source: Source) -> Writing
     ensures { ComposeEventPromise source result }
 {
@@ -127,6 +134,7 @@ pub fn compose_event(source: Source) -> Writing
     Writing::Refused(6)
 }
 
+#[tactic(auto, unfolding(crate::specs::Compose::compose_power_of, crate::specs::Compose::power_fits))]
 pub fn compose_power(short: u8, groups: u32) -> Writing
     ensures { ComposePowerPromise short groups result }
 {

@@ -1,6 +1,6 @@
 // What an event is composed from; `sort` is its type, a word that the language keeps. 255 in primary and short:
 // missing; in scheme: as shipped.
-#[derive(Drop)]
+#[derive(Clone, Copy)]
 pub struct Source {
     pub sort: u8,
     pub number: u8,

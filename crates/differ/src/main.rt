@@ -64,6 +64,7 @@ fn print_list(bytes: bool, list: &[u8], count: u8) -> bool {
 }
 
 // The list has room for 64 differences of 24 bytes: a map has no more values.
+#[tactic(auto, using(compare::proofs::Numbered::compare_most))]
 fn differ(bytes: bool, map: &[u8], old: &[u8], new: &[u8]) {
     let mut list = [0u8; 1536];
     let compared = compare::compare(map, old, new, &mut list);

@@ -4,7 +4,7 @@ ghost use Rattle.entries.specs.Entry.{entry_of, is_broken};
 ghost use Rattle.entries.specs.Promises.{FourBytesPromise, EntryAtPromise};
 
 // A frame record has its clock and its frame.
-#[derive(Drop)]
+#[derive(Clone, Copy)]
 pub enum Entry {
     Frame(u32, u32),
     PowerOn,
@@ -18,6 +18,7 @@ pub fn four_bytes(a: u8, b: u8, c: u8, d: u8) -> u32
     ((a as u32 * 256 + b as u32) * 256 + c as u32) * 256 + d as u32
 }
 
+#[tactic(auto, unfolding(crate::specs::Entry::entry_of))]
 fn entry_of(kind: u8, clock: u32, frame: u32) -> Entry
     ensures { result ≡ entry_of kind clock frame }
 {
@@ -32,6 +33,7 @@ fn entry_of(kind: u8, clock: u32, frame: u32) -> Entry
 }
 
 // Internal: record number i, which is there as a whole.
+#[tactic(auto, unfolding(crate::specs::Entry::entry_at))]
 pub fn entry_at(records: &[u8], i: usize) -> Entry
     requires { 8 * i + 8 ≤ length records.now }
     ensures { EntryAtPromise records.now i result }

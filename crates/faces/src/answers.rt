@@ -9,6 +9,7 @@ use looks::Looked;
 use packing::flag;
 use rooms::Reply;
 
+#[tactic(auto, unfolding(crate::specs::Answers::reply_word))]
 pub fn reply_word(reply: Reply) -> u32
     ensures { result ≡ reply_word reply }
 {
@@ -25,6 +26,7 @@ pub fn refusal_word(number: u8) -> u32
     })
 }
 
+#[tactic(auto, unfolding(crate::specs::Answers::look_word))]
 pub fn look_word(looked: Looked) -> u32
     ensures { result ≡ look_word looked }
 {

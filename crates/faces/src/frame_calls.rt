@@ -24,6 +24,7 @@ fn out_of_range() -> u32
 }
 
 // The frame of a message word.
+#[tactic(auto, using(frames::proofs::Round::writings_fit))]
 pub fn write_face(word: u64) -> u32
     ensures { WriteFacePromise word result }
 {
@@ -34,6 +35,7 @@ pub fn write_face(word: u64) -> u32
 }
 
 // Each field of a source fits its type.
+#[tactic(auto, using(crate::proofs::Composed::held))]
 fn is_held(sort: u32, number: u32, primary: u32, short: u32, information: u32, scheme: u32) -> bool
     ensures same { result ≡ fields_held sort number primary short information scheme }
     ensures facts { result ≡ true → FieldsHeld sort number primary short information scheme }
@@ -47,6 +49,7 @@ fn is_held(sort: u32, number: u32, primary: u32, short: u32, information: u32, s
 }
 
 // The frame of an event. The fields are wider than their ranges, so that none is cut to fit.
+#[tactic(auto, using(crate::proofs::Composed::not_held, crate::proofs::Composed::composed_fits))]
 pub fn compose_event_face(
     sort: u32,
     number: u32,
@@ -74,6 +77,7 @@ pub fn compose_event_face(
 }
 
 // The frame of a power event.
+#[tactic(auto, using(crate::proofs::Composed::power_not_held, crate::proofs::Composed::power_fits_lem))]
 pub fn compose_power_face(short: u32, groups: u32) -> u32
     ensures { ComposePowerFacePromise short groups result }
 {

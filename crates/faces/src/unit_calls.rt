@@ -19,6 +19,7 @@ pub fn check_face(map: &[u8], store: &[u8], image: &[u8]) -> u32
 }
 
 // 7 to 11, then a number that the call gives in any case.
+#[tactic(auto, using(crate::proofs::Faced::then_first, crate::proofs::Faced::then_own))]
 fn number_then(map: &[u8], store: &[u8], image: &[u8], own: u8) -> u8
     ensures { result ≡ then_number map.now store.now (length image.now) own }
 {
@@ -31,6 +32,7 @@ fn number_then(map: &[u8], store: &[u8], image: &[u8], own: u8) -> u8
 
 // Number, width and store offset of the value that begins at the bank and location. They are wider than bytes, so that
 // neither is cut to fit: no value begins at one over 255.
+#[tactic(auto, using(crate::proofs::NoByte::look_over))]
 pub fn look_face(map: &[u8], store: &[u8], bank: u32, location: u32) -> u32
     ensures { LookFacePromise map.now store.now bank location result }
 {
@@ -74,6 +76,7 @@ pub fn session_face(
 
 // A state is made, and the store as a power-on leaves it. The address is wider than a byte, so that it is not cut to
 // fit: one over 255 is refused as any other that is out of range, with a state of all zeros.
+#[tactic(auto, using(crate::proofs::Faced::faced, crate::proofs::NoByte::start_over), unfolding(crate::specs::Face::start_face))]
 pub fn start_face(
     map: &[u8],
     store: &mut [u8],
@@ -100,6 +103,7 @@ pub fn start_face(
 }
 
 // A frame, heard at a clock.
+#[tactic(auto, using(crate::proofs::Faced::unshaped, crate::proofs::Faced::shaped_as), unfolding(crate::specs::Face::frame_face))]
 pub fn frame_face(
     map: &[u8],
     store: &mut [u8],
@@ -123,6 +127,7 @@ pub fn frame_face(
 }
 
 // A later power-on.
+#[tactic(auto, using(crate::proofs::Faced::unshaped, crate::proofs::Faced::shaped_as), unfolding(crate::specs::Face::power_on_face))]
 pub fn power_on_face(map: &[u8], store: &mut [u8], image: &[u8], state: &mut [u8; 96]) -> u32
     ensures { PowerOnFacePromise map.now store.old image.now state.old
         result state.new store.new }
@@ -147,6 +152,7 @@ fn unfit(state: State) -> State
 }
 
 // Many records, with one check. Bytes that are no state's are refused like a state that breaks a rule.
+#[tactic(auto, using(crate::proofs::Run::run_unshaped, crate::proofs::Run::run_shaped))]
 pub fn run_face(
     map: &[u8],
     store: &mut [u8],

@@ -48,6 +48,7 @@ fn show(bank: u8, location: u8, found: Found, count: u8, records: u32) {
     }
 }
 
+#[tactic(auto, using(finds::proofs::Finds::found_size))]
 fn find_byte(map: &[u8], bank: u8, location: u8) {
     let finding = finds::find(map, bank, location);
     if finding.number != 0 {

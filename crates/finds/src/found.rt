@@ -5,7 +5,7 @@ ghost use Rattle.finds.specs.Promises.{FindPromise};
 
 use records::{Found, Why, halve, order_number};
 
-#[derive(Drop)]
+#[derive(Clone, Copy)]
 pub struct Finding {
     pub number: u8,
     pub found: Found,
@@ -24,6 +24,7 @@ fn refused(number: u8) -> Finding
 }
 
 // Which value holds the location, or why none does; and how many records the look-up examined.
+#[tactic(auto, using(records::proofs::Ordered::zero_ordered, crate::proofs::Finds::find_refused, crate::proofs::Finds::find_sought, crate::proofs::Finds::sought_fits))]
 pub fn find(map: &[u8], bank: u8, location: u8) -> Finding
     ensures { FindPromise map.now bank location result }
 {

@@ -14,6 +14,7 @@ fn word(what: u8, place: u8, width: u8) -> u64
     what as u64 * 256 + place as u64 * 65536 + width as u64 * 16777216
 }
 
+#[tactic(auto, unfolding(crate::specs::Find::found_word))]
 fn missing_word(why: Why) -> u64
     ensures { result ≡ found_word (Missing why) }
 {
@@ -24,6 +25,7 @@ fn missing_word(why: Why) -> u64
     }
 }
 
+#[tactic(auto, unfolding(crate::specs::Find::found_word))]
 fn found_word(found: Found) -> u64
     ensures { result ≡ found_word found }
 {
@@ -42,6 +44,7 @@ fn with_count(word: u64, count: u8) -> u64
 }
 
 // 7, 8, 9, then 6.
+#[tactic(auto, unfolding(crate::specs::Find::else_out_of_range))]
 fn else_out_of_range(map: &[u8]) -> u8
     ensures { result ≡ else_out_of_range map.now }
 {
@@ -53,6 +56,7 @@ fn else_out_of_range(map: &[u8]) -> u8
 }
 
 // Number, or what stands there and the count. Bank and location are wider than bytes, so that neither is cut to fit.
+#[tactic(auto, using(crate::proofs::Finds::word_bank_over, crate::proofs::Finds::word_location_over, crate::proofs::Finds::word_number, crate::proofs::Finds::word_is, crate::proofs::Finds::answer_fits))]
 pub fn find_word(map: &[u8], bank: u32, location: u32) -> u64
     ensures { FindWordPromise map.now bank location result }
 {

@@ -15,6 +15,7 @@ const KINDS: [u8; 256] = [
     11,
 ];
 
+#[tactic(auto, using(laws::proofs::Table::at), unfolding(crate::specs::Kind::kind_of))]
 pub fn kind(byte: u8) -> u8
     ensures { result ≡ kind_of byte }
 {

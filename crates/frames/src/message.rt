@@ -1,7 +1,7 @@
 // The types: a message, what it is made of, and the answers.
 
 // Who a command is for: the address holds its own kind and number.
-#[derive(Drop)]
+#[derive(Clone, Copy)]
 pub enum Address {
     Short(u8),
     Group(u8),
@@ -10,7 +10,7 @@ pub enum Address {
 }
 
 // Which part of a device it is for: the target holds its own kind and number.
-#[derive(Drop)]
+#[derive(Clone, Copy)]
 pub enum Target {
     InstanceNumber(u8),
     InstanceGroup(u8),
@@ -27,7 +27,7 @@ pub enum Target {
 
 // What an event carries, schemes 0 to 4: type and number, short address and type, short address and number,
 // lowest device group and type, primary group and type.
-#[derive(Drop)]
+#[derive(Clone, Copy)]
 pub enum Scheme {
     TypeNumber,
     ShortType,
@@ -37,7 +37,7 @@ pub enum Scheme {
 }
 
 // A field that may be missing.
-#[derive(Drop)]
+#[derive(Clone, Copy)]
 pub enum Field {
     Blank,
     Holds(u8),
@@ -46,7 +46,7 @@ pub enum Field {
 // A command: address, target, opcode. A special command: its number, and two free bytes.
 // An event: its scheme, the two fields that the scheme carries, the information.
 // A power cycle: the lowest device group, the short address.
-#[derive(Drop)]
+#[derive(Clone, Copy)]
 pub enum Message {
     Command(Address, Target, u8),
     Special(u8, u8, u8),
@@ -54,20 +54,20 @@ pub enum Message {
     Power(Field, Field),
 }
 
-#[derive(Drop)]
+#[derive(Clone, Copy)]
 pub enum Reading {
     Got(Message),
     Refused(u8),
 }
 
-#[derive(Drop)]
+#[derive(Clone, Copy)]
 pub enum Writing {
     Frame(u32),
     Refused(u8),
 }
 
 // What an address byte says.
-#[derive(Drop)]
+#[derive(Clone, Copy)]
 pub enum Addressed {
     To(Address),
     Special(u8),
@@ -75,21 +75,21 @@ pub enum Addressed {
 }
 
 // What an instance byte says.
-#[derive(Drop)]
+#[derive(Clone, Copy)]
 pub enum Targeted {
     At(Target),
     Reserved,
 }
 
 // What the bits of an event's scheme say.
-#[derive(Drop)]
+#[derive(Clone, Copy)]
 pub enum Schemed {
     By(Scheme),
     Other,
 }
 
 // What a bit and the field that it announces say.
-#[derive(Drop)]
+#[derive(Clone, Copy)]
 pub enum Fielded {
     Is(Field),
     NotBlank,

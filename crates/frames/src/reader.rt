@@ -16,6 +16,7 @@ use crate::places::{
 use crate::values::target_at;
 
 // An odd address byte.
+#[tactic(auto, using(laws::proofs::Tests::tests), unfolding(crate::specs::Read::address_of, laws::specs::Bits::bits))]
 fn address_of(byte: u8) -> Addressed
     ensures { result ≡ address_of byte }
 {
@@ -40,6 +41,7 @@ fn address_of(byte: u8) -> Addressed
     Addressed::Reserved
 }
 
+#[tactic(auto, unfolding(crate::specs::Read::target_of))]
 fn target_of(byte: u8) -> Targeted
     ensures { result ≡ target_of byte }
 {
@@ -55,6 +57,7 @@ pub fn aimed_at(address: Address, targeted: Targeted, opcode: u8) -> Reading
     }
 }
 
+#[tactic(auto, unfolding(crate::specs::Read::command_of, laws::specs::Bits::bits))]
 fn read_command(frame: u32) -> Reading
     ensures { result ≡ command_of frame }
 {
@@ -68,6 +71,7 @@ fn read_command(frame: u32) -> Reading
 }
 
 // The scheme of an event, by its bits 23, 22 and 15.
+#[tactic(auto, using(laws::proofs::Tests::tests), unfolding(crate::specs::Read::scheme_of))]
 fn scheme_of(b23: u32, b22: u32, b15: u32) -> Schemed
     ensures { result ≡ scheme_of b23 b22 b15 }
 {
@@ -89,6 +93,7 @@ fn scheme_of(b23: u32, b22: u32, b15: u32) -> Schemed
     Schemed::Other
 }
 
+#[tactic(auto, unfolding(laws::specs::Bits::bits))]
 fn first_field(scheme: Scheme, frame: u32) -> u8
     ensures { result ≡ first_field scheme frame }
 {
@@ -102,6 +107,7 @@ fn first_field(scheme: Scheme, frame: u32) -> u8
 }
 
 // A bit, and the field that it announces.
+#[tactic(auto, using(laws::proofs::Tests::tests), unfolding(crate::specs::Read::field_of))]
 fn field_of(announced: u32, value: u8) -> Fielded
     ensures { result ≡ field_of announced value }
 {
@@ -114,6 +120,7 @@ fn field_of(announced: u32, value: u8) -> Fielded
     Fielded::NotBlank
 }
 
+#[tactic(auto, unfolding(crate::specs::Read::power_of, laws::specs::Bits::bits))]
 fn read_power(frame: u32) -> Reading
     ensures { result ≡ power_of frame }
 {
@@ -129,6 +136,7 @@ fn read_power(frame: u32) -> Reading
 }
 
 // Bits 23, 22 and 15 are ones: a power cycle event, or reserved.
+#[tactic(auto, using(laws::proofs::Tests::tests), unfolding(crate::specs::Read::other_of, laws::specs::Bits::bits))]
 fn read_other(frame: u32) -> Reading
     ensures { result ≡ other_of frame }
 {
@@ -142,6 +150,7 @@ fn read_other(frame: u32) -> Reading
     Reading::Refused(4)
 }
 
+#[tactic(auto, unfolding(crate::specs::Read::event_of, laws::specs::Bits::bits))]
 fn read_event(frame: u32) -> Reading
     ensures { result ≡ event_of frame }
 {
@@ -160,6 +169,7 @@ fn read_event(frame: u32) -> Reading
     }
 }
 
+#[tactic(auto, using(laws::proofs::Tests::tests), unfolding(crate::specs::Read::read_of, laws::specs::Bits::bits))]
 pub fn read(frame: u32) -> Reading
     ensures { ReadPromise frame result }
 {

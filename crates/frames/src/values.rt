@@ -22,6 +22,7 @@ pub fn target_number(target: Target) -> u8
     }
 }
 
+#[tactic(auto, using(laws::proofs::Tests::tests), unfolding(crate::specs::Values::target_at))]
 pub fn target_at(kind: u8, number: u8) -> Targeted
     ensures { result ≡ target_at kind number }
 {
@@ -41,6 +42,7 @@ pub fn target_at(kind: u8, number: u8) -> Targeted
     }
 }
 
+#[tactic(auto, using(laws::proofs::Tests::tests), unfolding(crate::specs::Values::scheme_at))]
 pub fn scheme_at(number: u8) -> Scheme
     ensures { result ≡ scheme_at number }
 {

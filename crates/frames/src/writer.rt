@@ -86,6 +86,7 @@ fn command_fits(address: Address, target: Target) -> bool
     false
 }
 
+#[tactic(auto, using(laws::proofs::Tests::tests), unfolding(crate::specs::Write::event_fits))]
 fn event_fits(scheme: Scheme, first: u8, second: u8, information: u16) -> bool
     ensures { result ≡ event_fits scheme first second information }
 {
@@ -97,6 +98,7 @@ fn event_fits(scheme: Scheme, first: u8, second: u8, information: u16) -> bool
     false
 }
 
+#[tactic(auto, using(laws::proofs::Tests::tests))]
 fn power_fits(group: Field, short: Field) -> bool
     ensures { result ≡ ltb (field_value group) 32 && ltb (field_value short) 64 }
 {
@@ -123,6 +125,7 @@ fn message_fits(message: Message) -> bool
 }
 
 // Internal: the address byte and the instance byte are small enough that no sum runs over.
+#[tactic(auto, using(laws::proofs::Tests::tests), unfolding(crate::specs::Write::bytes_frame))]
 fn bytes_frame(address: u32, instance: u32, opcode: u8) -> u32
     requires { (address < 1024) × (instance < 1024) }
     ensures { result ≡ bytes_frame address instance opcode }
@@ -131,6 +134,7 @@ fn bytes_frame(address: u32, instance: u32, opcode: u8) -> u32
 }
 
 // Internal: the fixed bits are those of a frame.
+#[tactic(auto, using(laws::proofs::Tests::tests), unfolding(crate::specs::Write::event_frame))]
 fn event_frame(fixed: u32, first: u8, second: u8, information: u16) -> u32
     requires { fixed < 16777216 }
     ensures { result ≡ event_frame fixed first second information }
@@ -138,6 +142,7 @@ fn event_frame(fixed: u32, first: u8, second: u8, information: u16) -> u32
     fixed + (first as u32) * BIT_17 + (second as u32) * BIT_10 + (information as u32)
 }
 
+#[tactic(auto, unfolding(crate::specs::Write::power_frame))]
 fn power_frame(group: Field, short: Field) -> u32
     ensures { result ≡ power_frame group short }
 {
@@ -166,6 +171,7 @@ fn frame_of(message: Message) -> u32
     }
 }
 
+#[tactic(auto, unfolding(crate::specs::Write::write_of))]
 pub fn write(message: Message) -> Writing
     ensures { WritePromise message result }
 {

@@ -65,6 +65,7 @@ pub fn message_meaning(who: Who, message: Message) -> Meaning
     }
 }
 
+#[tactic(auto, unfolding(crate::specs::Meaning::meaning_of))]
 pub fn meaning_of(who: Who, frame: u32) -> Meaning
     ensures { result ≡ meaning_of who frame }
 {

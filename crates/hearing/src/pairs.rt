@@ -5,6 +5,7 @@ ghost use Rattle.hearing.specs.Pairs.{completes, none_waits, waits_for};
 use crate::heard::{Heard, Waiting};
 
 // Whether the frame that is heard is the second of a pair; the clock runs over.
+#[tactic(auto, unfolding(crate::specs::Pairs::completes, crate::specs::Pairs::in_time, crate::specs::Pairs::passed))]
 pub fn completes(waiting: Waiting, heard: Heard) -> bool
     ensures { result ≡ completes waiting heard }
 {

@@ -4,6 +4,7 @@ ghost use Rattle.ledger.specs.Bar.{RoundedUp};
 
 // Internal: a part of the whole, in fortieths, rounded up. The part is laid down 40 times, and each
 // whole that is full counts: no product can be too large.
+#[tactic(auto, using(crate::proofs::Laid::not_full, crate::proofs::Laid::one_full, crate::proofs::Laid::nothing_left, crate::proofs::Laid::one_holds))]
 fn fortieths(part: u64, whole: u64) -> usize
     requires { part < whole }
     ensures { RoundedUp part whole result }

@@ -5,7 +5,7 @@ use libc::STDIN_FILENO;
 
 // How the count ended: with the input; by a record of unknown kind, or by one of which only some
 // bytes are there; or because nothing more can be read.
-#[derive(Drop)]
+#[derive(Clone, Copy)]
 pub enum End {
     Whole,
     Unknown(u8),
@@ -14,7 +14,7 @@ pub enum End {
 }
 
 // A read: where the input ends then, and whether it failed.
-#[derive(Drop)]
+#[derive(Clone, Copy)]
 struct Read {
     filled: usize,
     failed: bool,
@@ -22,7 +22,7 @@ struct Read {
 
 // Between two reads: how many bytes of an unfinished record wait, whether there may be more, and
 // how it ended where there is not.
-#[derive(Drop)]
+#[derive(Clone, Copy)]
 struct Turn {
     kept: usize,
     more: bool,

@@ -6,6 +6,7 @@ use libc::STDOUT_FILENO;
 const SPACES: [u8; 20] = *b"                    ";
 
 // How many digits a number has.
+#[tactic(auto, using(crate::proofs::Digits::few_digits))]
 pub fn digits(number: u64) -> usize
     ensures { result ≤ 20 }
 {

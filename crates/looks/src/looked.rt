@@ -8,7 +8,7 @@ use banks::check_number;
 use records::{Beginning, value_at};
 
 // The number of a look, and the place of the value; a refusal has no place.
-#[derive(Drop)]
+#[derive(Clone, Copy)]
 pub struct Looked {
     pub number: u8,
     pub width: u8,
@@ -40,6 +40,7 @@ fn place_of(value: Beginning) -> Looked
 }
 
 // Number, width and offset of the value that begins at the bank and location.
+#[tactic(auto, using(banks::proofs::Standing::stands, crate::proofs::Looks::look_refused, crate::proofs::Looks::look_sound))]
 pub fn look_at(map: &[u8], store: &[u8], bank: u8, location: u8) -> Looked
     ensures { LookAtPromise map.now store.now bank location result }
 {
@@ -52,6 +53,7 @@ pub fn look_at(map: &[u8], store: &[u8], bank: u8, location: u8) -> Looked
 }
 
 // The number of a look: 7 to 11, then 14, or 0.
+#[tactic(auto, using(crate::proofs::Looks::look_number_is))]
 pub fn look_number(map: &[u8], store: &[u8], bank: u8, location: u8) -> u8
     ensures { LookNumberPromise map.now store.now bank location result }
 {
@@ -60,6 +62,7 @@ pub fn look_number(map: &[u8], store: &[u8], bank: u8, location: u8) -> u8
 }
 
 // The stored bytes themselves, no copy: a part of the lent store, and the empty part on refusal.
+#[tactic(auto, using(crate::proofs::Looks::look_inside, crate::proofs::Looks::look_part))]
 pub fn look<'a>(map: &[u8], store: &'a [u8], bank: u8, location: u8) -> &'a [u8]
     ensures { LookPromise map.now store.now bank location result.now }
 {

@@ -8,13 +8,14 @@ ghost use Rattle.memory.specs.Filled.{selects, chosen, fresh, Picked, filled_of}
 use banks::{is_lock, lock_byte, put_value};
 use records::{Record, is_writable, places_end, record_at, records};
 
-#[derive(Drop)]
+#[derive(Clone, Copy)]
 pub enum Filling {
     PowerOn,
     Reset(u8),
 }
 
 // The bank is one that a reset with this DTR0 selects.
+#[tactic(auto, unfolding(crate::specs::Filled::selects))]
 fn selects_bank(dtr0: u8, bank: u8) -> bool
     ensures { result ≡ selects dtr0 bank }
 {
@@ -22,6 +23,7 @@ fn selects_bank(dtr0: u8, bank: u8) -> bool
 }
 
 // Internal: the value is one that takes its fresh bytes.
+#[tactic(auto, unfolding(crate::specs::Filled::chosen))]
 fn is_chosen(map: &[u8], store: &[u8], filling: Filling, r: Record) -> bool
     requires { placed map.now (length store.now) ≡ true }
     ensures { result ≡ chosen (records_of map.now) store.now filling r }
@@ -38,6 +40,7 @@ fn is_chosen(map: &[u8], store: &[u8], filling: Filling, r: Record) -> bool
 }
 
 // Internal: the value takes its fresh bytes.
+#[tactic(auto, using(laws::proofs::Copies::lent_whole), unfolding(crate::specs::Filled::fresh, banks::specs::Values::value_of, banks::specs::Values::put_value, laws::specs::Parts::put))]
 fn freshen(store: &mut [u8], image: &[u8], r: Record)
     requires { (1 ≤ r.width) × (places_end r ≤ length store.old) × (places_end r ≤ length image.now) }
     ensures { store.new ≡ put_value r (fresh image.now r) store.old }
@@ -52,6 +55,7 @@ fn freshen(store: &mut [u8], image: &[u8], r: Record)
 }
 
 // Internal: which records are chosen, by their numbers.
+#[tactic(auto, using(crate::proofs::Filling::few, crate::proofs::Filling::pick_more))]
 fn choices(map: &[u8], store: &[u8], filling: Filling) -> [bool; 64]
     requires { placed map.now (length store.now) ≡ true }
     ensures { Picked map.now store.now filling result }
@@ -68,6 +72,7 @@ fn choices(map: &[u8], store: &[u8], filling: Filling) -> [bool; 64]
 }
 
 // Internal: each value that is chosen takes its fresh bytes. Map, store and image have passed 7 to 10.
+#[tactic(auto, using(crate::proofs::Filling::few, crate::proofs::Filling::done_none, crate::proofs::Filling::done_all, crate::proofs::Filling::fits, crate::proofs::Filling::done_put, crate::proofs::Filling::done_passed))]
 pub fn fill_store(map: &[u8], store: &mut [u8], image: &[u8], filling: Filling)
     requires { (placed map.now (length store.old) ≡ true) × (length image.now ≡ length store.old) }
     ensures { store.new

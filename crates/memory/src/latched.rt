@@ -9,7 +9,7 @@ ghost use Rattle.memory.specs.Latched.{none_latched, latches, latch_from, shown,
 use banks::padded_part;
 use records::{Found, Record, lookup, places_end};
 
-#[derive(Drop)]
+#[derive(Clone, Copy)]
 pub struct Latch {
     pub held: bool,
     pub bank: u8,
@@ -17,7 +17,7 @@ pub struct Latch {
     pub bytes: [u8; 8],
 }
 
-#[derive(Drop)]
+#[derive(Clone, Copy)]
 pub struct Shown {
     pub latch: Latch,
     pub answered: bool,
@@ -44,6 +44,7 @@ fn is_latched(l: Latch, r: Record) -> bool
 }
 
 // Internal: the latch after the first or single byte of the value was read, whose part of the store this is.
+#[tactic(auto, unfolding(crate::specs::Latched::latch_from))]
 fn latch_from(part: &[u8], r: Record) -> Latch
     requires { length part.now ≤ 8 }
     ensures { result ≡ latch_from r part.now }
@@ -71,6 +72,7 @@ fn shown_as(l: Latch, byte: u8) -> Shown
 }
 
 // Internal: byte number k of the value, whose part of the store this is.
+#[tactic(auto, unfolding(crate::specs::Latched::show_byte))]
 fn show_byte(part: &[u8], l: Latch, r: Record, k: usize) -> Shown
     requires { (k < length part.now) × (length part.now ≤ 8) }
     ensures { result ≡ show_byte l r part.now k }
@@ -86,6 +88,7 @@ fn show_byte(part: &[u8], l: Latch, r: Record, k: usize) -> Shown
 }
 
 // Internal: the byte at a location of the value.
+#[tactic(auto, using(laws::proofs::Copies::lent), unfolding(banks::specs::Values::value_of))]
 fn show_value(store: &[u8], l: Latch, r: Record, location: u8) -> Shown
     requires { Reaches (length store.now) location r }
     ensures { result ≡ show_byte l r (value_of r store.now) (location - r.first) }
@@ -98,6 +101,7 @@ fn show_value(store: &[u8], l: Latch, r: Record, location: u8) -> Shown
 }
 
 // Internal: READ at a location of a mapped bank.
+#[tactic(auto, using(banks::proofs::Places::placed_ordered, crate::proofs::Reaching::reaches), unfolding(crate::specs::Latched::read_byte, crate::specs::Latched::read_at))]
 pub fn read_byte(map: &[u8], store: &[u8], latch: Latch, bank: u8, location: u8) -> Shown
     requires { placed map.now (length store.now) ≡ true }
     ensures { result ≡ read_byte (records_of map.now) store.now latch bank location }

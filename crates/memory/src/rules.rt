@@ -10,6 +10,7 @@ use crate::staged::{Staged, is_unlocked};
 use records::{Beginning, is_writable, value_at};
 
 // The bytes are zero from number `used` on.
+#[tactic(auto, using(crate::proofs::Zeros::zero_fails, crate::proofs::Zeros::zero_goes_on, crate::proofs::Zeros::zero_all))]
 fn is_zero_from(bytes: [u8; 8], used: usize) -> bool
     ensures { result ≡ zero_from used bytes }
 {
@@ -24,6 +25,7 @@ fn is_zero_from(bytes: [u8; 8], used: usize) -> bool
 }
 
 // Internal: the staged bytes are some of this value's.
+#[tactic(auto, unfolding(crate::specs::Rules::staged_in))]
 fn staged_in(map: &[u8], store: &[u8], g: Staged, value: Beginning) -> bool
     requires { placed map.now (length store.now) ≡ true }
     ensures { result ≡ staged_in (records_of map.now) store.now g value }
@@ -41,6 +43,7 @@ fn staged_in(map: &[u8], store: &[u8], g: Staged, value: Beginning) -> bool
 }
 
 // Internal: the rule of staged bytes.
+#[tactic(auto, using(banks::proofs::Places::placed_ordered), unfolding(crate::specs::Rules::staged_holds))]
 pub fn staged_holds(map: &[u8], store: &[u8], staged: Staged) -> bool
     requires { placed map.now (length store.now) ≡ true }
     ensures { result ≡ staged_holds (records_of map.now) store.now staged }
@@ -55,6 +58,7 @@ pub fn staged_holds(map: &[u8], store: &[u8], staged: Staged) -> bool
 }
 
 // The latched bytes are this value's.
+#[tactic(auto, unfolding(crate::specs::Rules::latched_in))]
 fn latched_in(l: Latch, value: Beginning) -> bool
     ensures { result ≡ latched_in l value }
 {
@@ -69,6 +73,7 @@ fn latched_in(l: Latch, value: Beginning) -> bool
 }
 
 // Internal: the rule of latched bytes. The map has passed 7, 8 and 9.
+#[tactic(auto, using(laws::proofs::Choosing::if_yes, laws::proofs::Choosing::if_no), unfolding(crate::specs::Rules::latch_holds))]
 pub fn latch_holds(map: &[u8], latch: Latch) -> bool
     requires { ordered map.now ≡ true }
     ensures { result ≡ latch_holds (records_of map.now) latch }

@@ -10,7 +10,7 @@ ghost use Rattle.memory.specs.Staged.{write_found, write_byte};
 use banks::{lock_byte, put_value};
 use records::{Found, Record, is_writable, lookup};
 
-#[derive(Drop)]
+#[derive(Clone, Copy)]
 pub struct Staged {
     pub count: u8,
     pub bank: u8,
@@ -18,7 +18,7 @@ pub struct Staged {
     pub bytes: [u8; 8],
 }
 
-#[derive(Drop)]
+#[derive(Clone, Copy)]
 pub struct Wrote {
     pub taken: bool,
     pub staged: Staged,
@@ -46,6 +46,7 @@ fn is_next(g: Staged, r: Record, location: u8) -> bool
 }
 
 // Internal: the bank's lock byte is 0x55 where the value is lockable.
+#[tactic(auto, unfolding(crate::specs::Staged::unlocked))]
 pub fn is_unlocked(map: &[u8], store: &[u8], r: Record) -> bool
     requires { placed map.now (length store.now) ≡ true }
     ensures { result ≡ unlocked (records_of map.now) store.now r }
@@ -55,6 +56,7 @@ pub fn is_unlocked(map: &[u8], store: &[u8], r: Record) -> bool
 }
 
 // Internal: the byte is taken.
+#[tactic(auto, unfolding(crate::specs::Staged::taken))]
 fn is_taken(map: &[u8], store: &[u8], g: Staged, r: Record, location: u8) -> bool
     requires { placed map.now (length store.now) ≡ true }
     ensures { result ≡ taken (records_of map.now) store.now g r location }
@@ -66,6 +68,7 @@ fn is_taken(map: &[u8], store: &[u8], g: Staged, r: Record, location: u8) -> boo
 }
 
 // Internal: the staged bytes, with byte number k.
+#[tactic(auto, unfolding(crate::specs::Staged::bytes_with))]
 fn bytes_with(g: Staged, k: usize, byte: u8) -> [u8; 8]
     requires { k < 8 }
     ensures { result ≡ bytes_with g k byte }
@@ -90,6 +93,7 @@ fn wrote_as(taken: bool, g: Staged) -> Wrote
 }
 
 // Internal: byte number k of the value is taken.
+#[tactic(auto, unfolding(crate::specs::Staged::take_byte))]
 fn take_byte(store: &mut [u8], g: Staged, r: Record, k: u8, byte: u8) -> Wrote
     requires { (k < r.width) × (r.width ≤ 8) × (r.offset + r.width ≤ length store.old) }
     ensures { Gives result store.new (take_byte store.old g r k byte) }
@@ -109,6 +113,7 @@ fn take_byte(store: &mut [u8], g: Staged, r: Record, k: u8, byte: u8) -> Wrote
 }
 
 // Internal: an executed write at a location of the value.
+#[tactic(auto, unfolding(crate::specs::Staged::write_found))]
 fn write_found(map: &[u8], store: &mut [u8], g: Staged, r: Record, location: u8, byte: u8) -> Wrote
     requires { (placed map.now (length store.old) ≡ true) × Reaches (length store.old) location r }
     ensures { Gives result store.new (write_found (records_of map.now) store.old g r location byte) }
@@ -123,6 +128,7 @@ fn write_found(map: &[u8], store: &mut [u8], g: Staged, r: Record, location: u8,
 }
 
 // Internal: an executed write of the byte at the bank and location.
+#[tactic(auto, using(banks::proofs::Places::placed_ordered, crate::proofs::Reaching::reaches), unfolding(crate::specs::Staged::write_byte, crate::specs::Staged::write_at))]
 pub fn write_byte(
     map: &[u8],
     store: &mut [u8],

@@ -24,6 +24,7 @@ pub fn flag(b: bool) -> u8
 }
 
 // Internal: the four bytes from place i on.
+#[tactic(auto, unfolding(crate::specs::StateBytes::four_at))]
 fn four_at(bytes: [u8; 96], i: usize) -> u32
     requires { i + 4 ≤ 96 }
     ensures { result ≡ four_at bytes i }
@@ -32,6 +33,7 @@ fn four_at(bytes: [u8; 96], i: usize) -> u32
 }
 
 // Internal: the eight bytes from place i on.
+#[tactic(auto, using(crate::proofs::Copied::read_more, crate::proofs::Copied::all_read), unfolding(laws::specs::Parts::part))]
 fn eight_at(bytes: [u8; 96], i: usize) -> [u8; 8]
     requires { i + 8 ≤ 96 }
     ensures { result ≡ part i 8 bytes }
@@ -103,6 +105,7 @@ fn latch_at(bytes: [u8; 96]) -> Latch
 }
 
 // The state that the bytes say. It goes by setters, so that a room without places of its own is zero.
+#[tactic(auto, unfolding(crate::specs::StateBytes::state_of))]
 pub fn unpack(bytes: [u8; 96]) -> State
     ensures { UnpackPromise bytes result }
 {
@@ -113,6 +116,7 @@ pub fn unpack(bytes: [u8; 96]) -> State
 }
 
 // Zero behind the bytes in use.
+#[tactic(auto, using(crate::proofs::Spelled::from_fails, crate::proofs::Spelled::from_goes_on, crate::proofs::Spelled::from_ends))]
 fn is_zero_behind(bytes: [u8; 96]) -> bool
     ensures { result ≡ every (λ x. eqb x 0) (drop used bytes) }
 {
@@ -126,6 +130,7 @@ fn is_zero_behind(bytes: [u8; 96]) -> bool
     true
 }
 
+#[tactic(auto, unfolding(crate::specs::StateBytes::shape_holds))]
 pub fn shape_holds(bytes: [u8; 96]) -> bool
     ensures { ShapeHoldsPromise bytes result }
 {
@@ -134,6 +139,7 @@ pub fn shape_holds(bytes: [u8; 96]) -> bool
 }
 
 // Internal: the number's four bytes, put from place i on.
+#[tactic(auto, using(crate::proofs::Spelled::put_from), unfolding(crate::specs::StateBytes::four_of, laws::specs::Bits::bits))]
 fn put_four(bytes: [u8; 96], i: usize, n: u32) -> [u8; 96]
     requires { i + 4 ≤ 96 }
     ensures { result ≡ put i (four_of n) bytes }
@@ -147,6 +153,7 @@ fn put_four(bytes: [u8; 96], i: usize, n: u32) -> [u8; 96]
 }
 
 // Internal: eight bytes, put from place i on.
+#[tactic(auto, using(crate::proofs::Copied::more_put, crate::proofs::Copied::all_put), unfolding(laws::specs::Parts::put))]
 fn put_eight(bytes: [u8; 96], i: usize, eight: [u8; 8]) -> [u8; 96]
     requires { i + 8 ≤ 96 }
     ensures same { result ≡ put i eight bytes }
@@ -162,6 +169,7 @@ fn put_eight(bytes: [u8; 96], i: usize, eight: [u8; 8]) -> [u8; 96]
 }
 
 // The bytes of a state.
+#[tactic(auto, using(crate::proofs::Packed::packed))]
 pub fn pack(state: State) -> [u8; 96]
     ensures { PackPromise state result }
 {

@@ -9,27 +9,27 @@ use crate::record::{Record, record_at, records};
 
 // Why no record holds a location: the bank is absent; a hole, with the next mapped location in that bank; or past the
 // bank's last one.
-#[derive(Drop)]
+#[derive(Clone, Copy)]
 pub enum Why {
     Absent,
     Hole(u8),
     Past,
 }
 
-#[derive(Drop)]
+#[derive(Clone, Copy)]
 pub enum Found {
     At(Record),
     Missing(Why),
 }
 
 // What halving finds, and how many records it examines for that.
-#[derive(Drop)]
+#[derive(Clone, Copy)]
 pub struct Sought {
     pub found: Found,
     pub count: usize,
 }
 
-#[derive(Drop)]
+#[derive(Clone, Copy)]
 pub enum Beginning {
     Begins(Record),
     NoValue,
@@ -60,6 +60,7 @@ fn middle_of(low: usize, high: usize) -> usize
 
 // Why no record holds a location, by the neighbours of the gap: the bank below it, the bank above it and the first location
 // there. 256 is no bank.
+#[tactic(auto, unfolding(crate::specs::Halving::beside))]
 fn reason(bank: u8, below: usize, above: usize, next: u8) -> Why
     ensures { result ≡ beside bank below above next }
 {
@@ -75,6 +76,7 @@ fn reason(bank: u8, below: usize, above: usize, next: u8) -> Why
 // Internal: halving. The map has passed 7, 8 and 9. The reason is carried on the way: the last record that lay right of the
 // location and the last that lay left of it are the neighbours of the gap. Both answers are made in one place, `found`: a caller
 // that does not ask for reason or count then pays for neither.
+#[tactic(auto, using(crate::proofs::Neighbours::below_turn, crate::proofs::Neighbours::above_turn, crate::proofs::Neighbours::below_of, crate::proofs::Neighbours::above_of, crate::proofs::Neighbours::starts_between, crate::proofs::Neighbours::told_left, crate::proofs::Neighbours::told_right, crate::proofs::Turns::seen, crate::proofs::Turns::stops, crate::proofs::Turns::goes_left, crate::proofs::Turns::goes_right, crate::proofs::Turns::sought_in, crate::proofs::Turns::sought_skips, crate::proofs::Turns::sought_has, crate::proofs::Turns::sought_ends))]
 pub fn halve(map: &[u8], bank: u8, location: u8) -> Sought
     requires { ordered map.now ≡ true }
     ensures { result ≡ sought map.now bank location }
@@ -114,6 +116,7 @@ pub fn halve(map: &[u8], bank: u8, location: u8) -> Sought
 }
 
 // Halving by the bank alone, of any map.
+#[tactic(auto, using(crate::proofs::Turns::seen, crate::proofs::Turns::stops, crate::proofs::Turns::goes_left, crate::proofs::Turns::goes_right, crate::proofs::Turns::mapped_in, crate::proofs::Turns::mapped_skips, crate::proofs::Turns::mapped_has, crate::proofs::Turns::mapped_starts, crate::proofs::Turns::mapped_ends))]
 fn halve_bank(map: &[u8], bank: u8) -> bool
     ensures { result ≡ halved_bank map.now bank }
 {
@@ -135,6 +138,7 @@ fn halve_bank(map: &[u8], bank: u8) -> bool
 }
 
 // Internal: the record that holds the location, or why none does. The map has passed 7, 8 and 9.
+#[tactic(auto, using(crate::proofs::Halving::halving_finds), unfolding(crate::specs::Halving::sought))]
 pub fn lookup(map: &[u8], bank: u8, location: u8) -> Found
     requires { ordered map.now ≡ true }
     ensures { result ≡ holder (records_of map.now) bank location }
@@ -144,6 +148,7 @@ pub fn lookup(map: &[u8], bank: u8, location: u8) -> Found
 }
 
 // Internal: the value that begins at the bank and location. The map has passed 7, 8 and 9.
+#[tactic(auto, unfolding(crate::specs::Lookup::beginner, crate::specs::Lookup::if_first))]
 pub fn value_at(map: &[u8], bank: u8, location: u8) -> Beginning
     requires { ordered map.now ≡ true }
     ensures { result ≡ beginner (records_of map.now) bank location }
@@ -159,6 +164,7 @@ pub fn value_at(map: &[u8], bank: u8, location: u8) -> Beginning
 }
 
 // Internal: some record has that bank. The map has passed 7, 8 and 9.
+#[tactic(auto, using(crate::proofs::Halving::halving_maps))]
 pub fn is_mapped(map: &[u8], bank: u8) -> bool
     requires { ordered map.now ≡ true }
     ensures { result ≡ mapped (records_of map.now) bank }

@@ -8,6 +8,7 @@ ghost use Rattle.records.specs.Promises.{OrderNumberPromise};
 use crate::record::{Record, is_writable, locations_end, record_at, records};
 
 // 7, of a map of n bytes.
+#[tactic(auto, unfolding(crate::specs::Order::size_holds))]
 fn size_holds(n: usize) -> bool
     ensures { result ≡ size_holds n }
 {
@@ -32,6 +33,7 @@ fn fields_hold(r: Record) -> bool
 }
 
 // 8.
+#[tactic(auto, using(crate::proofs::Walk::from, crate::proofs::Walk::at_start, crate::proofs::Walk::at_end, crate::proofs::Walk::every_stops, crate::proofs::Walk::every_goes_on))]
 fn all_fields_hold(map: &[u8]) -> bool
     ensures { result ≡ every fields_hold (records_of map.now) }
 {
@@ -56,6 +58,7 @@ fn stands_before(p: Record, r: Record) -> bool
 }
 
 // 9.
+#[tactic(auto, using(crate::proofs::Walk::from, crate::proofs::Walk::at_end, crate::proofs::Walk::rising_none, crate::proofs::Walk::rising_starts, crate::proofs::Walk::rising_stops, crate::proofs::Walk::rising_goes_on))]
 fn is_rising(map: &[u8]) -> bool
     ensures { result ≡ rising (records_of map.now) }
 {
@@ -77,6 +80,7 @@ fn is_rising(map: &[u8]) -> bool
 }
 
 // The number of a map by itself: 7, 8, 9, or 0.
+#[tactic(auto, using(laws::proofs::Sides::failed, laws::proofs::Sides::passed), unfolding(crate::specs::Order::order_number, laws::specs::Numbers::first_failing))]
 pub fn order_number(map: &[u8]) -> u8
     ensures { OrderNumberPromise map.now result }
 {

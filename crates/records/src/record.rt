@@ -2,7 +2,7 @@
 ghost use Rattle.std.specs.Prelude.{◌≡◌, ◌+◌, ◌*◌, ◌/◌, ◌≤◌, length};
 ghost use Rattle.records.specs.Map.{record_at, writable, locations_end, places_end};
 
-#[derive(Drop)]
+#[derive(Clone, Copy)]
 pub struct Record {
     pub bank: u8,
     pub first: u8,
@@ -28,6 +28,7 @@ pub fn records(map: &[u8]) -> usize
 }
 
 // Internal: record number i.
+#[tactic(auto, unfolding(crate::specs::Map::record_at))]
 pub fn record_at(map: &[u8], i: usize) -> Record
     requires { 8 * i + 8 ≤ length map.now }
     ensures { result ≡ record_at map.now i }

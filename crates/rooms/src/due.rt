@@ -8,7 +8,7 @@ ghost use Rattle.rooms.specs.Due.{write_due, read_due, once_due, pair_due, due_b
 use crate::state::{Registers, State};
 use hearing::{Heard, Meaning, Once, Twice, Who};
 
-#[derive(Drop)]
+#[derive(Clone, Copy)]
 pub enum Due {
     Nothing,
     Waits,
@@ -22,6 +22,7 @@ pub enum Due {
 }
 
 // DTR number k.
+#[tactic(auto, using(laws::proofs::Tests::tests), unfolding(crate::specs::Due::dtr_of))]
 fn dtr_of(registers: Registers, k: u8) -> u8
     ensures { result ≡ dtr_of registers k }
 {
@@ -32,6 +33,7 @@ fn dtr_of(registers: Registers, k: u8) -> u8
     }
 }
 
+#[tactic(auto, using(laws::proofs::Tests::tests), unfolding(crate::specs::Due::with_dtr))]
 pub fn with_dtr(registers: Registers, k: u32, byte: u8) -> Registers
     ensures { result ≡ with_dtr registers k byte }
 {
@@ -61,6 +63,7 @@ fn with_dtrs(registers: Registers, k: u8, high: u8, low: u8) -> Registers
 }
 
 // Byte number k of the groups, the low one first.
+#[tactic(auto, unfolding(crate::specs::Due::group_byte))]
 fn group_byte(groups: u32, k: u8) -> u8
     ensures { result ≡ group_byte groups k }
 {
@@ -74,6 +77,7 @@ fn group_byte(groups: u32, k: u8) -> u8
 }
 
 // DTR2 and DTR1, at the groups 0-15 or at the groups 16-31.
+#[tactic(auto, using(laws::proofs::Tests::tests), unfolding(crate::specs::Due::group_word))]
 fn group_word(registers: Registers, half: u8) -> u32
     ensures { result ≡ group_word registers half }
 {
@@ -93,6 +97,7 @@ fn in_groups(who: Who, groups: u32) -> Who
     }
 }
 
+#[tactic(auto, unfolding(crate::specs::Due::short_due))]
 fn short_due(who: Who, dtr0: u8) -> Due
     ensures { result ≡ short_due who dtr0 }
 {
@@ -107,6 +112,7 @@ fn short_due(who: Who, dtr0: u8) -> Due
 }
 
 // Internal: a write, if it executes. The map has passed 7 to 9.
+#[tactic(auto, unfolding(crate::specs::Due::write_due))]
 fn write_due(
     map: &[u8],
     enabled: bool,
@@ -127,6 +133,7 @@ fn write_due(
 }
 
 // Internal: a READ, if the bank is mapped.
+#[tactic(auto, unfolding(crate::specs::Due::read_due))]
 fn read_due(map: &[u8], registers: Registers) -> Due
     requires { ordered map.now ≡ true }
     ensures { result ≡ read_due (records_of map.now) registers }
@@ -138,6 +145,7 @@ fn read_due(map: &[u8], registers: Registers) -> Due
 }
 
 // Internal: a command obeyed at once.
+#[tactic(auto, unfolding(crate::specs::Due::once_due))]
 fn once_due(map: &[u8], state: State, once: Once) -> Due
     requires { ordered map.now ≡ true }
     ensures { result ≡ once_due (records_of map.now) state once }
@@ -165,6 +173,7 @@ fn once_due(map: &[u8], state: State, once: Once) -> Due
 }
 
 // A pair that executes.
+#[tactic(auto, unfolding(crate::specs::Due::pair_due))]
 fn pair_due(state: State, twice: Twice) -> Due
     ensures { result ≡ pair_due state twice }
 {
@@ -186,6 +195,7 @@ fn pair_due(state: State, twice: Twice) -> Due
 }
 
 // Internal: what is due by a meaning. A foreign frame looks at no map.
+#[tactic(auto, unfolding(crate::specs::Due::due_by))]
 pub fn due_by(map: &[u8], state: State, heard: Heard, meaning: Meaning) -> Due
     requires { ordered map.now ≡ true }
     ensures { result ≡ due_by (records_of map.now) state heard meaning }

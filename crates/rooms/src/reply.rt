@@ -5,14 +5,14 @@ ghost use Rattle.rooms.specs.Reply.{accepted, quiet, answering, refusing};
 use crate::state::State;
 
 // The number (0: accepted), and the answer if there is one.
-#[derive(Drop)]
+#[derive(Clone, Copy)]
 pub struct Reply {
     pub number: u8,
     pub answered: bool,
     pub answer: u8,
 }
 
-#[derive(Drop)]
+#[derive(Clone, Copy)]
 pub struct Stepped {
     pub reply: Reply,
     pub state: State,
@@ -36,6 +36,7 @@ fn accepted(answered: bool, answer: u8) -> Reply
 }
 
 // Accepted; answered or not.
+#[tactic(auto, unfolding(crate::specs::Reply::answering))]
 pub fn answering(state: State, answered: bool, answer: u8) -> Stepped
     ensures { result ≡ answering state answered answer }
 {
@@ -47,6 +48,7 @@ pub fn answering(state: State, answered: bool, answer: u8) -> Stepped
 }
 
 // Accepted, and no answer.
+#[tactic(auto, unfolding(crate::specs::Reply::quiet, crate::specs::Reply::answering))]
 pub fn quiet(state: State) -> Stepped
     ensures { result ≡ quiet state }
 {
@@ -54,6 +56,7 @@ pub fn quiet(state: State) -> Stepped
 }
 
 // Refused: the number, and the state that was handed in.
+#[tactic(auto, unfolding(crate::specs::Reply::refusing))]
 pub fn refusing(state: State, number: u8) -> Stepped
     ensures { result ≡ refusing state number }
 {

@@ -26,6 +26,7 @@ fn needs_pair(meaning: Meaning) -> bool
 }
 
 // A waiting frame is a pair command for the unit, and write-enable is then closed.
+#[tactic(auto, unfolding(crate::specs::Rules::waiting_holds))]
 fn waiting_holds(state: State) -> bool
     ensures { result ≡ waiting_holds state }
 {
@@ -38,6 +39,7 @@ fn waiting_holds(state: State) -> bool
 }
 
 // Internal: staged bytes exist only while enabled, and keep their own rule.
+#[tactic(auto, unfolding(crate::specs::Rules::door_holds))]
 fn door_holds(map: &[u8], store: &[u8], state: State) -> bool
     requires { placed map.now (length store.now) ≡ true }
     ensures { result ≡ door_holds (records_of map.now) store.now state }
@@ -49,6 +51,7 @@ fn door_holds(map: &[u8], store: &[u8], state: State) -> bool
 }
 
 // Internal: all of them. Map, store and image have passed 7 to 10.
+#[tactic(auto, using(banks::proofs::Places::placed_ordered), unfolding(crate::specs::Rules::state_holds))]
 pub fn state_holds(map: &[u8], store: &[u8], state: State) -> bool
     requires { placed map.now (length store.now) ≡ true }
     ensures { result ≡ state_holds (records_of map.now) store.now state }

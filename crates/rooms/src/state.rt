@@ -7,7 +7,7 @@ use hearing::{Waiting, Who};
 use memory::{Latch, Staged};
 
 // The data transfer registers DTR0..2.
-#[derive(Drop)]
+#[derive(Clone, Copy)]
 pub struct Registers {
     pub dtr0: u8,
     pub dtr1: u8,
@@ -15,13 +15,13 @@ pub struct Registers {
 }
 
 // Write-enable, and the bytes that are staged while it is open.
-#[derive(Drop)]
+#[derive(Clone, Copy)]
 pub struct Door {
     pub enabled: bool,
     pub staged: Staged,
 }
 
-#[derive(Drop)]
+#[derive(Clone, Copy)]
 pub struct State {
     pub who: Who,
     pub registers: Registers,
@@ -30,6 +30,7 @@ pub struct State {
     pub latch: Latch,
 }
 
+#[tactic(auto, unfolding(crate::specs::State::with_who))]
 pub fn with_who(state: State, who: Who) -> State
     ensures { result ≡ with_who state who }
 {
@@ -38,6 +39,7 @@ pub fn with_who(state: State, who: Who) -> State
     changed
 }
 
+#[tactic(auto, unfolding(crate::specs::State::with_registers))]
 pub fn with_registers(state: State, registers: Registers) -> State
     ensures { result ≡ with_registers state registers }
 {
@@ -46,6 +48,7 @@ pub fn with_registers(state: State, registers: Registers) -> State
     changed
 }
 
+#[tactic(auto, unfolding(crate::specs::State::with_waiting))]
 pub fn with_waiting(state: State, waiting: Waiting) -> State
     ensures { result ≡ with_waiting state waiting }
 {
@@ -54,6 +57,7 @@ pub fn with_waiting(state: State, waiting: Waiting) -> State
     changed
 }
 
+#[tactic(auto, unfolding(crate::specs::State::with_door))]
 pub fn with_door(state: State, door: Door) -> State
     ensures { result ≡ with_door state door }
 {
@@ -62,6 +66,7 @@ pub fn with_door(state: State, door: Door) -> State
     changed
 }
 
+#[tactic(auto, unfolding(crate::specs::State::with_latch))]
 pub fn with_latch(state: State, latch: Latch) -> State
     ensures { result ≡ with_latch state latch }
 {
@@ -103,6 +108,7 @@ fn zero_registers() -> Registers
 }
 
 // DTRs 0; nothing waiting, enabled, staged or latched. What is not named stays, so this goes by setters.
+#[tactic(auto, unfolding(crate::specs::State::powered_on))]
 pub fn powered_on(state: State) -> State
     ensures { result ≡ powered_on state }
 {
@@ -114,6 +120,7 @@ pub fn powered_on(state: State) -> State
 }
 
 // All zeros: the one whole state that is spelled out.
+#[tactic(auto, unfolding(crate::specs::State::zero_state))]
 pub fn zero_state() -> State
     ensures { result ≡ zero_state }
 {

@@ -9,7 +9,7 @@ use libc::{STDERR_FILENO, STDIN_FILENO, STDOUT_FILENO};
 use records::Found;
 
 // How many were found, and the checksum: three times the one before, and the offset found.
-#[derive(Drop)]
+#[derive(Clone, Copy)]
 struct Tally {
     found: u64,
     checksum: u64,
@@ -78,6 +78,7 @@ fn write_line(name: &[u8], number: u64) -> bool {
 }
 
 // A program has no status of its own to end with: what it could not do it says on standard error.
+#[tactic(auto, using(records::proofs::Ordered::zero_ordered))]
 fn seek(map: &[u8]) {
     if records::order_number(map) != 0 {
         say(b"seek: the map breaks rule 7, 8 or 9\n");

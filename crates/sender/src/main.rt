@@ -47,6 +47,7 @@ fn print_frames(records: bool, frames: [u32; 13], count: u8) -> bool
     true
 }
 
+#[tactic(auto, using(session::proofs::Shown::session_places))]
 fn send(records: bool, map: &[u8], address: u32, bank: u32, location: u32, bytes: &[u8]) {
     let session = session::session(map, address, bank, location, bytes);
     if session.number != 0 {

@@ -4,7 +4,7 @@ ghost use Rattle.session.specs.Session.{without_frames};
 ghost use Rattle.session.specs.Session.{sent as sentOf};
 
 // Unused places, and all of a refusal, are 0.
-#[derive(Drop)]
+#[derive(Clone, Copy)]
 pub struct Session {
     pub number: u8,
     pub count: u8,
@@ -23,6 +23,7 @@ pub fn without_frames(number: u8) -> Session
 }
 
 // Internal: one frame more.
+#[tactic(auto, unfolding(crate::specs::Session::sent))]
 pub fn sent(session: Session, frame: u32) -> Session
     requires { session.count < 13 }
     ensures { result ≡ sentOf session frame }

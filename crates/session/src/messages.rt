@@ -14,6 +14,7 @@ fn frame_in(writing: Writing) -> u32
 }
 
 // DTR1.
+#[tactic(auto, unfolding(crate::specs::Session::framed))]
 pub fn set_bank(bank: u8) -> u32
     ensures { result ≡ framed (set_bank bank) }
 {
@@ -21,6 +22,7 @@ pub fn set_bank(bank: u8) -> u32
 }
 
 // ENABLE WRITE MEMORY.
+#[tactic(auto, unfolding(crate::specs::Session::framed))]
 pub fn enable_write(address: u8) -> u32
     ensures { result ≡ framed (enable_write address) }
 {
@@ -28,6 +30,7 @@ pub fn enable_write(address: u8) -> u32
 }
 
 // DIRECT WRITE MEMORY.
+#[tactic(auto, unfolding(crate::specs::Session::framed))]
 pub fn direct_write(offset: u8, byte: u8) -> u32
     ensures { result ≡ framed (direct_write offset byte) }
 {

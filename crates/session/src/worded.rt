@@ -4,6 +4,7 @@ ghost use Rattle.session.specs.Promises.{SessionWordPromise};
 use crate::writer::session;
 
 // number | count << 8; all 13 places are always written.
+#[tactic(auto, unfolding(crate::specs::Session::session_word))]
 pub fn session_word(
     map: &[u8],
     address: u32,

@@ -13,6 +13,7 @@ use crate::messages::{direct_write, enable_write, set_bank};
 use records::{Beginning, Record, is_writable, order_number, value_at};
 
 // Internal: for a lockable value a write of its bank's lock byte.
+#[tactic(auto, unfolding(crate::specs::Session::lock_writes))]
 fn lock_sent(session: Session, r: Record, byte: u8) -> Session
     requires { session.count < 13 }
     ensures { result ≡ sent_all session (lock_writes r byte) }
@@ -24,6 +25,7 @@ fn lock_sent(session: Session, r: Record, byte: u8) -> Session
 }
 
 // Internal: the bytes in order, from the first location on.
+#[tactic(auto, using(crate::proofs::Growing::byte_sent, crate::proofs::Growing::bytes_all), unfolding(crate::specs::Session::sent))]
 fn bytes_sent(session: Session, first: u8, bytes: &[u8]) -> Session
     requires { (session.count + length bytes.now ≤ 13) × (first + length bytes.now ≤ 255) }
     ensures { result ≡ sent_all session (byte_writes first bytes.now) }
@@ -38,6 +40,7 @@ fn bytes_sent(session: Session, first: u8, bytes: &[u8]) -> Session
 }
 
 // DTR1, the ENABLE pair.
+#[tactic(auto, unfolding(crate::specs::Session::sent))]
 fn opened(address: u8, bank: u8) -> Session
     ensures { result ≡ sent_all (without_frames 0) (opening address bank) }
 {
@@ -47,6 +50,7 @@ fn opened(address: u8, bank: u8) -> Session
 }
 
 // Internal: the frames that write a value: DTR1, the ENABLE pair, the bytes, and round them the lock byte.
+#[tactic(auto, using(crate::proofs::Growing::opened_count, crate::proofs::Growing::unlocked_count, crate::proofs::Growing::whole_count, crate::proofs::Growing::fits, crate::proofs::Growing::all_sent))]
 fn written(address: u8, r: Record, bytes: &[u8]) -> Session
     requires { (length bytes.now ≤ 8) × (r.first + length bytes.now ≤ 255) }
     ensures { result ≡ session_with (messages_of address r bytes.now) }
@@ -64,6 +68,7 @@ fn is_fit(address: u32, r: Record, count: usize) -> bool
 }
 
 // Internal: 16, 6, then the frames.
+#[tactic(auto, using(laws::proofs::Sides::failed, laws::proofs::Sides::passed, crate::proofs::Numbered::not_writable, crate::proofs::Numbered::not_fit, crate::proofs::Numbered::fit_count, crate::proofs::Numbered::value_none, crate::proofs::Numbered::value_refused, crate::proofs::Numbered::value_written))]
 fn for_value(address: u32, r: Record, bytes: &[u8]) -> Session
     requires { (r.width ≤ 8) × (locations_end r ≤ 255) }
     ensures { result ≡ value_session address r bytes.now }
@@ -79,6 +84,7 @@ fn for_value(address: u32, r: Record, bytes: &[u8]) -> Session
 
 // Internal: the value that begins at the bank and location, which are wider than bytes, so that neither is cut to fit:
 // none begins at one over 255.
+#[tactic(auto, using(crate::proofs::Numbered::no_byte))]
 fn begins_at(map: &[u8], bank: u32, location: u32) -> Beginning
     requires { ordered map.now ≡ true }
     ensures { result ≡ beginner (records_of map.now) bank location }
@@ -93,6 +99,7 @@ fn begins_at(map: &[u8], bank: u32, location: u32) -> Beginning
 }
 
 // The frames that write the bytes to the value that begins at the bank and location, in the unit of that short address.
+#[tactic(auto, using(records::proofs::Members::member_fields, records::proofs::Ordered::zero_ordered, crate::proofs::Numbered::begins_in, crate::proofs::Numbered::number_refused, crate::proofs::Numbered::none_begins, crate::proofs::Numbered::session_refused, crate::proofs::Numbered::session_value))]
 pub fn session(map: &[u8], address: u32, bank: u32, location: u32, bytes: &[u8]) -> Session
     ensures { SessionPromise map.now address bank location bytes.now result }
 {

@@ -2,6 +2,7 @@
 ghost use Rattle.std.specs.Prelude.{◌≤◌, ◌≡◌, length};
 ghost use Rattle.showing.specs.Seen.{Seen};
 
+#[tactic(auto, using(crate::proofs::Seeing::seen_none, crate::proofs::Seeing::seen_more, crate::proofs::Seeing::seen_all))]
 fn see(seen: &mut [u8], store: &[u8])
     ensures { Seen seen.new store.now }
 {

@@ -32,7 +32,7 @@ pub fn show_ends(map: &[u8], first: &[u8], store: &[u8], page: &mut [u8]) -> usi
 
 // What a record came to: the state after it, where its page ends, whether another record may follow, and whether the
 // capture is whole so far: of whole records of known kind.
-#[derive(Drop)]
+#[derive(Clone, Copy)]
 pub struct Shown {
     pub state: State,
     pub end: usize,
@@ -105,6 +105,7 @@ fn is_known(bytes: &[u8; 8]) -> bool
 }
 
 // What was read, so many bytes of a record: its step and its page, or the end.
+#[tactic(auto, using(crate::proofs::Nexts::next_step, crate::proofs::Nexts::next_end))]
 pub fn show_next(
     map: &[u8],
     store: &mut [u8],

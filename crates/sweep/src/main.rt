@@ -14,6 +14,7 @@ fn count_one(counts: &mut [u64; 16], class: usize)
 }
 
 // Internal: a checksum so far is below the modulus.
+#[tactic(auto, unfolding(crate::specs::Mixed::mixed))]
 fn mix(checksum: u64, word: u64) -> u64
     requires { checksum < 4294967291 }
     ensures same { result ≡ mixed checksum word }

@@ -9,7 +9,7 @@ use rooms::Registers;
 use text::Line;
 
 // Whether a frame reads or writes memory of the unit, and at which location.
-#[derive(Drop)]
+#[derive(Clone, Copy)]
 struct Reach {
     memory: bool,
     location: u8,

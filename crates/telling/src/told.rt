@@ -11,7 +11,7 @@ use rooms::State;
 use text::{Line, say_frame, say_value};
 
 // What a record came to: the state after it, the answer, if there is one, and the width of the value whose bytes are staged.
-#[derive(Drop)]
+#[derive(Clone, Copy)]
 pub struct Step {
     pub state: State,
     pub answered: bool,

@@ -4,7 +4,7 @@ ghost use Rattle.std.specs.Prelude.{◌<◌, ◌≤◌, ◌≡◌};
 
 // The length is a byte, so that it always lies within the text. What does not fit any more is left out, but for the
 // line end, for which there is always room.
-#[derive(Drop)]
+#[derive(Clone, Copy)]
 pub struct Line {
     pub text: [u8; 256],
     pub length: u8,

@@ -8,7 +8,7 @@ use rooms::State;
 use tracing::Flow;
 
 // Between two reads: where the trace stands, and whether all that was due is written.
-#[derive(Drop)]
+#[derive(Clone, Copy)]
 struct Turned {
     flow: Flow,
     written: bool,
@@ -35,6 +35,7 @@ fn note_read(got: isize) {
 }
 
 // Internal: reads once, behind the bytes that are kept, and answers where the input ends then. A read that fails ends it.
+#[tactic(auto, using(crate::proofs::Ends::behind, io::proofs::Counting::prefix_len_of_le))]
 fn read_more(input: &mut [u8], kept: usize) -> usize
     requires { kept ≤ length input.old }
     ensures { IsPrefixLen result input.new }
@@ -53,6 +54,7 @@ fn write_answers(output: &[u8], count: usize) -> bool
 }
 
 // Internal: reads once, and writes what the records answer that are whole then. A record cut by the read waits.
+#[tactic(auto, using(tracing::proofs::Flowing::flows_again))]
 fn trace_some(
     map: &[u8],
     store: &mut [u8],
@@ -83,6 +85,7 @@ fn write_end(unfinished: bool, written: bool) -> bool {
 
 // Answers whether all is written. A proved loop has to end, and nothing
 // says that the input does: so it counts its turns down, from a number that no run uses up.
+#[tactic(auto, using(tracing::proofs::Flowing::flows_first))]
 fn trace_all(map: &[u8], store: &mut [u8], image: &[u8], state: State) -> bool {
     let mut input = io::large_buffer();
     let mut output = io::large_buffer();

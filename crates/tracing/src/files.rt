@@ -12,6 +12,7 @@ fn byte_or_zero(bytes: &[u8], i: usize) -> u8
 }
 
 // unit.adr: address, then 32 group bits, high byte first.
+#[tactic(auto, unfolding(crate::specs::Trace::who_of))]
 pub fn who_of(adr: &[u8]) -> Who
     ensures { WhoOfPromise adr.now result }
 {
@@ -29,6 +30,7 @@ pub fn who_of(adr: &[u8]) -> Who
 }
 
 // The number of the files: 7 to 11, then 6, which a wrong length of unit.adr is too, or 0.
+#[tactic(auto, using(crate::proofs::Starts::checks_refuse, crate::proofs::Starts::adr_decides))]
 pub fn number_of_files(map: &[u8], store: &[u8], image: &[u8], adr: &[u8]) -> u8
     ensures { NumberOfFilesPromise map.now store.now image.now adr.now result }
 {

@@ -8,7 +8,7 @@ use rooms::State;
 // Between two reads: the state; how many bytes of an unfinished record wait at the front of the input; how many records
 // of the last slice were answered; whether 13 ended the input; whether an unfinished record is left, which is 13 if no
 // more comes; and whether more is to be read.
-#[derive(Drop)]
+#[derive(Clone, Copy)]
 pub struct Flow {
     pub state: State,
     pub kept: usize,
@@ -19,6 +19,7 @@ pub struct Flow {
 }
 
 // Nothing is read yet.
+#[tactic(auto, unfolding(crate::specs::Flow::begun_flow))]
 pub fn begin(state: State) -> Flow
     ensures { result ≡ begun_flow state }
 {
@@ -34,6 +35,7 @@ pub fn begin(state: State) -> Flow
 
 // Internal: the first `filled` bytes of the input are a slice, in front of it what was kept. Its whole records are run,
 // and what is behind them goes to the front.
+#[tactic(auto, using(crate::proofs::Flowing::goes_on))]
 pub fn go_on(
     map: &[u8],
     store: &mut [u8],

@@ -12,7 +12,7 @@ use entries::{Entry, entry_at, is_broken};
 use rooms::{Reply, State, Stepped, refusing};
 
 // How far a run has come: the state, the records answered, and whether 13 ended it.
-#[derive(Drop)]
+#[derive(Clone, Copy)]
 pub struct Ran {
     pub state: State,
     pub count: usize,
@@ -26,6 +26,7 @@ fn zero_or_one(answered: bool) -> u8
 }
 
 // Internal: number or 0, answered 0/1, answer or 0, zero.
+#[tactic(auto, using(crate::proofs::Written::four_put), unfolding(unit::specs::Run::output_of))]
 fn write_reply(output: &mut [u8], at: usize, reply: Reply)
     requires { at + 4 ≤ length output.old }
     ensures { output.new ≡ put at (output_of reply) output.old }
@@ -37,6 +38,7 @@ fn write_reply(output: &mut [u8], at: usize, reply: Reply)
 }
 
 // Internal: what the record's public call would do. Its number is known from the one check, but for a frame's own.
+#[tactic(auto, using(crate::proofs::Checks::turn_refused, crate::proofs::Checks::stands_there, crate::proofs::Checks::turn_powers, crate::proofs::Checks::turn_unheard, crate::proofs::Checks::turn_hears), unfolding(crate::specs::Run::turn_of))]
 fn step_entry(
     map: &[u8],
     store: &mut [u8],
@@ -71,6 +73,7 @@ fn step_entry(
 }
 
 // Internal: one turn of a run: the next record's step, and its four bytes.
+#[tactic(auto, using(crate::proofs::Turning::turns))]
 fn turn(
     map: &[u8],
     store: &mut [u8],
@@ -100,6 +103,7 @@ fn turn(
     }
 }
 
+#[tactic(auto, unfolding(crate::specs::Run::room_for))]
 fn room_for(records: usize, output: usize) -> usize
     ensures { result ≡ room_for records output }
 {
@@ -109,6 +113,7 @@ fn room_for(records: usize, output: usize) -> usize
 }
 
 // Runs the whole records, as many as the output has room for.
+#[tactic(auto, using(crate::proofs::Turning::one_left, crate::proofs::Turning::goes_first, crate::proofs::Turning::begins, crate::proofs::Turning::goes_again, crate::proofs::Turning::ran))]
 pub fn run(
     map: &[u8],
     store: &mut [u8],

@@ -15,6 +15,7 @@ use rooms::{
 };
 
 // Any frame clears the waiting one; what closes write-enable drops staging.
+#[tactic(auto, unfolding(rooms::specs::State::with_door, rooms::specs::State::with_waiting, crate::specs::Step::cleared))]
 pub fn hear(state: State, closing: bool) -> State
     ensures { result ≡ cleared state closing }
 {
@@ -26,6 +27,7 @@ pub fn hear(state: State, closing: bool) -> State
 }
 
 // DTR0 rises by one unless 0xFF.
+#[tactic(auto, unfolding(crate::specs::Step::raised))]
 fn raise(state: State, location: u8) -> State
     ensures { result ≡ raised state location }
 {
@@ -37,6 +39,7 @@ fn raise(state: State, location: u8) -> State
 }
 
 // Internal: an executed write.
+#[tactic(auto, unfolding(crate::specs::Step::written))]
 fn write_at(
     map: &[u8],
     store: &mut [u8],
@@ -66,6 +69,7 @@ fn write_at(
 }
 
 // Internal: a READ in a mapped bank.
+#[tactic(auto, unfolding(crate::specs::Step::read_by))]
 fn read_at(map: &[u8], store: &[u8], state: State, bank: u8, location: u8) -> Stepped
     requires { placed map.now (length store.now) ≡ true }
     ensures { result ≡ read_by state location
@@ -82,6 +86,7 @@ fn read_at(map: &[u8], store: &[u8], state: State, bank: u8, location: u8) -> St
 }
 
 // Internal: what is due. Map, store and image have passed 7 to 10.
+#[tactic(auto, unfolding(crate::specs::Step::done))]
 pub fn act(
     map: &[u8],
     store: &mut [u8],

@@ -15,6 +15,7 @@ use rooms::{State, Stepped, due_by, powered_on, quiet, refusing, with_who, zero_
 
 // Internal: a frame step on a map, store and state that keep the rules. Whoever runs many frames checks once, and then
 // calls this. A reserved frame goes straight to clearing the waiting one.
+#[tactic(auto, using(banks::proofs::Places::placed_ordered), unfolding(crate::specs::Step::frame_step, rooms::specs::Due::due_of, hearing::specs::Meaning::meaning_of, rooms::specs::Due::due_by, crate::specs::Step::done))]
 pub fn frame_step(map: &[u8], store: &mut [u8], image: &[u8], state: State, heard: Heard) -> Stepped
     requires { (placed map.now (length store.old) ≡ true) × (length image.now ≡ length store.old) }
     ensures { Gives result store.new
@@ -31,6 +32,7 @@ pub fn frame_step(map: &[u8], store: &mut [u8], image: &[u8], state: State, hear
 }
 
 // Internal: a power-on on a map and store that keep the rules.
+#[tactic(auto, unfolding(crate::specs::Step::power_step))]
 pub fn power_step(map: &[u8], store: &mut [u8], image: &[u8], state: State) -> Stepped
     requires { (placed map.now (length store.old) ≡ true) × (length image.now ≡ length store.old) }
     ensures { Gives result store.new
@@ -40,6 +42,7 @@ pub fn power_step(map: &[u8], store: &mut [u8], image: &[u8], state: State) -> S
     quiet(powered_on(state))
 }
 
+#[tactic(auto, using(numbers::proofs::Behind::stepped), unfolding(crate::specs::Step::step_of))]
 pub fn step(map: &[u8], store: &mut [u8], image: &[u8], state: State, heard: Heard) -> Stepped
     ensures { StepPromise map.now store.old image.now state heard result store.new }
 {
@@ -51,6 +54,7 @@ pub fn step(map: &[u8], store: &mut [u8], image: &[u8], state: State, heard: Hea
 }
 
 // A later power-on: address and groups stay.
+#[tactic(auto, using(numbers::proofs::Behind::powered), unfolding(crate::specs::Step::power_on_of))]
 pub fn power_on(map: &[u8], store: &mut [u8], image: &[u8], state: State) -> Stepped
     ensures { PowerOnPromise map.now store.old image.now state result store.new }
 {
@@ -62,6 +66,7 @@ pub fn power_on(map: &[u8], store: &mut [u8], image: &[u8], state: State) -> Ste
 }
 
 // Address and groups as given, then as a power-on; a refused start's state is all zeros.
+#[tactic(auto, using(numbers::proofs::Behind::started), unfolding(crate::specs::Step::start_of))]
 pub fn start(map: &[u8], store: &mut [u8], image: &[u8], who: Who) -> Stepped
     ensures { StartPromise map.now store.old image.now who result store.new }
 {

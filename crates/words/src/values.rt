@@ -26,6 +26,7 @@ pub fn address_number(address: Address) -> u8
     }
 }
 
+#[tactic(auto, using(laws::proofs::Tests::tests), unfolding(crate::specs::Values::address_at))]
 pub fn address_at(kind: u8, number: u8) -> Address
     ensures { result ≡ address_at kind number }
 {
@@ -68,6 +69,7 @@ pub fn scheme_number(scheme: Scheme) -> u8
     }
 }
 
+#[tactic(auto, using(laws::proofs::Tests::tests), unfolding(crate::specs::Values::field_at))]
 pub fn field_at(present: u8, value: u8) -> Field
     ensures { result ≡ field_at present value }
 {

@@ -34,6 +34,7 @@ fn wide(byte: u8) -> u64
     byte as u64
 }
 
+#[tactic(auto, unfolding(crate::specs::Word::six_bytes))]
 fn six_bytes(a: u8, b: u8, c: u8, d: u8, e: u8, f: u8) -> u64
     ensures same { result ≡ six_bytes a b c d e f }
     ensures small { result < 2 ^ 48 }
@@ -54,6 +55,7 @@ fn message_kind(message: Message) -> u8
     }
 }
 
+#[tactic(auto, unfolding(laws::specs::Bits::bits))]
 fn message_values(message: Message) -> u64
     ensures same { result ≡ message_values message }
     ensures small { result < 2 ^ 48 }
@@ -99,6 +101,7 @@ pub fn word_of(reading: Reading) -> u64
     }
 }
 
+#[tactic(auto, using(laws::proofs::Tests::tests), unfolding(crate::specs::Word::message_at))]
 fn message_at(kind: u8, a: u8, b: u8, c: u8, d: u8, e: u8) -> Reading
     ensures { result ≡ message_at kind a b c d e }
 {
@@ -129,6 +132,7 @@ fn matched_with(reading: Reading, word: u64) -> Reading
     }
 }
 
+#[tactic(auto, unfolding(crate::specs::Word::message_of, laws::specs::Bits::bits))]
 pub fn message_of(word: u64) -> Reading
     ensures { MessageOfPromise word result }
 {

@@ -1,17 +1,9 @@
--- `frames::kinds::kind` meets its contract: the table's rule is a test at each of its 256 entries, which antt computes.
+-- The table's rule is a test at each of its 256 entries, which antt computes.
 -- Assumes nothing.
-use mathlib.Core.Path.{refl}
-use mathlib.Core.List.{List, [], ◌∷◌}
-use mathlib.Core.Bool.{Bool}
-use Prim.Native.Nat.{ℕ}
-use lib.Dec.{eqb}
-use borrow.Author.Tests.{eqb-true}
-use lib.ListN.{get_or}
-use borrow.Author.Rules.{rules}
+use Rattle.std.proofs.Common.{rules, ◌≡◌, ℕ, ◌<◌, Bool, List, [], ◌∷◌, refl, eqb, eqb-true, get_or}
 use Rattle.laws.proofs.Table.{at}
 use Rattle.frames.specs.Kind.{kind_of}
-use Rattle.frames.proofs.kinds.kind.Statement.{statement}
-use Rattle.frames.proofs.kinds.kind.Tie as tie
+use Rattle.frames.proofs.kinds.kind.Goals as goal
 
 kinds : List ℕ
 kinds =
@@ -35,14 +27,10 @@ kinds =
 right : ℕ → ℕ → Bool
 right k x = eqb x (kind_of k)
 
-array_read_result : tie.Need-array-read-result
-array_read_result c = search rules
-
-returns : tie.Need-returns
+table : (b : ℕ) → b < 256 → get_or kinds b 0 ≡ kind_of b
 unfolding kinds right kind_of
-returns c =
-    eqb-true (get_or kinds c.args.byte 0) (kind_of c.args.byte)
-    (at right kinds refl c.args.byte (search rules))
+table b h = eqb-true (get_or kinds b 0) (kind_of b) (at right kinds refl b h)
 
-pub kind_spec : {M : Type 1} → statement M
-kind_spec = tie.close (tie.spec array_read_result returns)
+pub returns : goal.returns
+unfolding kinds
+returns c = table c.args.byte (search rules)
