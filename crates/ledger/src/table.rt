@@ -25,7 +25,7 @@ const NAMES: [u8; 850] = *b"\
     malformed power events                            \
     reserved events                                   \
     frame records                                     \
-    power_on records                                  \
+    power-on records                                  \
 ";
 
 const FRAME_RECORDS: usize = 15;
