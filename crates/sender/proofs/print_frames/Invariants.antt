@@ -1,4 +1,4 @@
-use Rattle.std.proofs.Common.{◌-◌, ◌≤◌, length, ◌≡◌, ℕ, ◌+◌, ◌*◌, ◌<◌}
+use Rattle.std.proofs.Common.{◌-◌, ◌≤◌}
 use Rattle.sender.proofs.print_frames.Given as goal
 
 abbrev pub invariant-loop-i : goal.invariant-loop-i

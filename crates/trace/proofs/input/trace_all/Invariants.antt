@@ -1,4 +1,3 @@
-use Rattle.std.proofs.Common.{◌≡◌, false, ◌*◌, ◌≤◌, length, take, ℕ, ◌+◌, ◌-◌, ◌<◌}
 use Rattle.tracing.specs.Flow.{Flows}
 use Rattle.trace.proofs.input.trace_all.Given as goal
 
