@@ -20,11 +20,7 @@ done_testing() {
 }
 
 # programs NAME..: these are proved and linked; what the prover says is shown where it fails
-programs() {
-    said=$(rt check "$@" 2>&1) && return 0
-    printf '%s\n' "$said"
-    return 1
-}
+programs() { prove "$@"; }
 
 # second_program: both builds of the second program stand in target/second and target/second-sanitized
 second_program() {
@@ -36,14 +32,21 @@ second_program() {
 # c_tools: the compiler whose programs link our archive
 c_tools() { if [ "$(uname -m)" = x86_64 ]; then need gcc gcc; else need x86_64-linux-gnu-gcc gcc-x86-64-linux-gnu; fi; }
 
-# copy NAME: the crates, copied to a folder of this name in the test's room, which is then the working folder; what is proved already,
-# and did not change, is not proved again there. `root` is the repository's folder
+# libraries NAME: what this crate needs is proved and kept, so that a copy of the repository proves only what differs
+libraries() {
+    said=$(cd "crates/$1" && rt check 2>&1) && return 0
+    printf '%s\n' "$said"
+    return 1
+}
+
+# copy NAME: the crates, copied to a folder of this name in the test's room, which is then the working folder; what is proved
+# already, and did not change, `rt` does not prove again there. `root` is the repository's folder
 copy() {
-    mkdir "$room/$1" && cp -R "$root/crates" "$root/crates.txt" "$room/$1/" || exit 1
-    if [ -d "$root/target" ]; then
-        mkdir "$room/$1/target"
-        for part in rlib stamp; do [ ! -d "$root/target/$part" ] || cp -R "$root/target/$part" "$room/$1/target/"; done
-    fi
+    mkdir "$room/$1" "$room/$1/.git" && cp "$root/crates.txt" "$room/$1" || exit 1
+    for part in "$root"/crates/*/src "$root"/crates/*/specs "$root"/crates/*/proofs; do
+        to=$room/$1/${part#"$root/"}
+        [ ! -d "$part" ] || { mkdir -p "${to%/*}" && cp -R "$part" "$to"; } || exit 1
+    done
     cd "$room/$1" || exit 1
 }
 
