@@ -15,7 +15,7 @@ use Rattle.laws.proofs.Sides.{and_left, and_right, chosen, same_test}
 use Rattle.laws.proofs.Members.{some_at, some_of}
 use Rattle.records.specs.Map.{records_of, writable}
 use Rattle.records.specs.Order.{ordered}
-use Rattle.records.specs.Lookup.{holds, holder}
+use Rattle.records.specs.Lookup.{holder}
 use Rattle.records.specs.Facts.{Member, Holds}
 use Rattle.records.specs.declared.record.Record.{Record}
 use Rattle.records.specs.declared.holder.Found.TheVariants.{At, Missing}

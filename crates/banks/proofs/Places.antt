@@ -3,7 +3,7 @@
 use mathlib.Core.Path.{◌≡◌, ap, sym, ◌∙◌, subst}
 use mathlib.Core.Logic.{◌⊎◌, inl, inr, ⊎_elim}
 use mathlib.Core.Bool.{Bool, true, false, not}
-use mathlib.Core.List.{List, ◌∷◌, Memᴰ}
+use mathlib.Core.List.{List, [], ◌∷◌, Memᴰ}
 use Prim.Native.Nat.{ℕ, ◌+◌, ◌/◌, ◌<◌}
 use borrow.Author.Tests.{leb-true}
 use lib.Dec.{leb}
@@ -54,6 +54,7 @@ rest_apart x rs e p r a m =
 
 disjoint_apart : (rs : List Record) → disjoint rs ≡ true → (p r : Record) → Memᴰ p rs → Memᴰ r rs
     → (p ≡ r) ⊎ Apart p r
+disjoint_apart [] e p r x3 _ = elim x3 [ ]
 disjoint_apart (x ∷ rs) e p r (Memᴰ.head a) (Memᴰ.head b) = inl (a ∙ sym b)
 disjoint_apart (x ∷ rs) e p r (Memᴰ.head a) (Memᴰ.tail m) = inr (rest_apart x rs e p r a m)
 disjoint_apart (x ∷ rs) e p r (Memᴰ.tail m) (Memᴰ.head b) = inr (other_way r p (rest_apart x rs e r p b m))

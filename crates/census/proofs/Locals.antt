@@ -3,7 +3,7 @@
 -- Of `seq s₁ (.. (seq (block (loop turn)) rest))`, `tail_of` goes one statement on, `inside (inside (head_of ..))` is the turn
 -- and `tail_of ..` the rest.
 use Rattle.std.proofs.Common.{◌≡◌, ℕ, zero, suc, Bool, true, false, not, T, List, [], ◌∷◌, refl}
-use mir.Syntax.{Ty, ty_unit, Local, local, Body, skip, seq, assign, block, loop, cond, switch, exit, return, call}
+use mir.Syntax.{Ty, ty_unit, Local, local, Body, skip, seq, assign, block, loop, cond, switch, exit, return, call, call_v, lend_static, unreachable}
 
 abbrev pub type_of : List Local → ℕ → Ty
 type_of [] k = ty_unit
@@ -27,6 +27,9 @@ head_of (switch c rs) = skip
 head_of (exit n) = skip
 head_of return = skip
 head_of (call f xs p) = skip
+head_of (call_v f xs m p) = skip
+head_of (lend_static p x q) = skip
+head_of unreachable = skip
 
 -- what comes after it
 abbrev pub tail_of : Body → Body
@@ -40,6 +43,9 @@ tail_of (switch c rs) = skip
 tail_of (exit n) = skip
 tail_of return = skip
 tail_of (call f xs p) = skip
+tail_of (call_v f xs m p) = skip
+tail_of (lend_static p x q) = skip
+tail_of unreachable = skip
 
 -- what a block or a loop holds
 abbrev pub inside : Body → Body
@@ -53,6 +59,9 @@ inside (switch c rs) = skip
 inside (exit n) = skip
 inside return = skip
 inside (call f xs p) = skip
+inside (call_v f xs m p) = skip
+inside (lend_static p x q) = skip
+inside unreachable = skip
 
 -- a test that was taken, and one that was not
 pub holds_true : (b : Bool) → T b → b ≡ true

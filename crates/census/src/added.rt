@@ -19,7 +19,7 @@ fn count_at(census: Census, k: usize) -> u64
 }
 
 // Each added to what stands there, modulo 2^64.
-#[tactic(auto, using(crate::proofs::Filled::filled_none, crate::proofs::Filled::filled_more, crate::proofs::Filled::filled_all), unfolding(crate::specs::Census::added_to))]
+#[tactic(auto, using(crate::proofs::Filled::filled_none, crate::proofs::Filled::filled_more))]
 fn added_to(counts: [u64; 16], census: Census) -> [u64; 16]
     ensures { result ≡ added_to counts census }
 {

@@ -5,7 +5,7 @@ use crate::counts::{Census, nothing};
 use crate::next::{count_next, goes_on, next_at, place_after, rest_at};
 
 // The records from a place on, counted.
-#[tactic(auto, using(crate::proofs::Going::going_start, crate::proofs::Going::inside, crate::proofs::Going::turned, crate::proofs::Going::nearer, crate::proofs::Going::over, crate::proofs::Going::has_room))]
+#[tactic(auto, using(crate::proofs::Going::going_start, crate::proofs::Going::inside, crate::proofs::Going::has_room))]
 pub fn count_from(capture: &[u8], at: usize) -> Census
     ensures { CountFromPromise capture.now at result }
 {

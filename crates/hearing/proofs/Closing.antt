@@ -1,6 +1,6 @@
 -- What keeps write-enable, and what closes it.
 -- Assumes nothing.
-use Rattle.std.proofs.Common.{◌≡◌, ℕ, Bool, true, false, not, ◌⊎◌, List, ◌∷◌, ◌++◌, map, refl, ap, ◌∙◌, inl, inr, ⊎_elim}
+use Rattle.std.proofs.Common.{◌≡◌, ℕ, Bool, true, false, not, ◌⊎◌, List, [], ◌∷◌, ◌++◌, map, refl, ap, ◌∙◌, inl, inr, ⊎_elim}
 use mathlib.Core.List.{Memᴰ}
 use Rattle.laws.specs.Bits.{bits}
 use Rattle.laws.specs.Lists.{every}
@@ -29,6 +29,7 @@ asked_keep i o = refl
 -- what a row means closes, or its code is among those that keep
 row_keeps : (rows : List Row) (m : Meaning) → Memᴰ m (map (λ r. r.means) rows)
     → (closes m ≡ true) ⊎ Memᴰ (code_of m) (keepers rows)
+row_keeps [] m i = elim i [ ]
 row_keeps (r ∷ rs) m (Memᴰ.head p) =
     if_by (λ cs. (closes m ≡ true) ⊎ Memᴰ (code_of m) cs) (closes r.means)
     (λ e. inl (ap closes p ∙ e)) (λ e. inr (Memᴰ.head (ap code_of p)))

@@ -1,7 +1,6 @@
 -- The bytes of every frame that means a listed command are those of paper 01.
 -- Assumes nothing.
 use Rattle.std.proofs.Common.{◌≡◌, ℕ, ◌+◌, ◌*◌, ◌⊎◌, List, [], ◌∷◌, map, refl, ap, ◌∙◌, inl, inr, ⊎_elim}
-use Rattle.laws.specs.Bits.{bits}
 use Rattle.laws.proofs.Tests.{if_by, if_eq}
 use Rattle.frames.specs.Read.{read_of}
 use Rattle.frames.specs.Write.{target_byte}

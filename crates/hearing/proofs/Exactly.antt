@@ -5,7 +5,7 @@ use mathlib.Core.Bool.{false≢true}
 use mathlib.Core.List.{Memᴰ}
 use Rattle.laws.specs.Bits.{bits}
 use Rattle.laws.specs.Lists.{every}
-use Rattle.laws.proofs.Tests.{if_by, if_eq, both, denied}
+use Rattle.laws.proofs.Tests.{if_by, if_eq, denied}
 use Rattle.laws.proofs.Items.{every_at}
 use Rattle.laws.proofs.Choosing.{refuted}
 use Rattle.frames.specs.Kind.{kind_of}
@@ -39,6 +39,7 @@ unfolding device_command special_command first_special
 table i o = refl
 
 same_at : (f : Meaning → Meaning) (xs : List Meaning) → map f xs ≡ xs → (x : Meaning) → Memᴰ x xs → f x ≡ x
+same_at f [] e x i = elim i [ ]
 same_at f (y ∷ xs) e x (Memᴰ.head p) = let q : f y ≡ y = cc in ap f p ∙ q ∙ sym p
 same_at f (y ∷ xs) e x (Memᴰ.tail i) = same_at f xs (cc) x i
 
@@ -61,6 +62,7 @@ listed_in (r ∷ rs) n =
 
 module _ (x : Meaning) where
   in_left : (xs ys : List Meaning) → Memᴰ x xs → Memᴰ x (xs ++ ys)
+  in_left [] ys i = elim i [ ]
   in_left (y ∷ xs) ys (Memᴰ.head p) = Memᴰ.head p
   in_left (y ∷ xs) ys (Memᴰ.tail i) = Memᴰ.tail (in_left xs ys i)
 

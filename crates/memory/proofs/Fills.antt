@@ -94,6 +94,7 @@ module _ (map store image : List ℕ) (p : placed map (length store) ≡ true) (
   -- a value that is chosen takes its fresh bytes
   anew : (v : Record) → such v ≡ true → (rs : List Record) → Some rs → Memᴰ v rs
       → value_of v (filled rs) ≡ fresh image v
+  anew v c [] some x'' = elim x'' [ ]
   anew v c (r ∷ rs) some (Memᴰ.head e) =
       rw (ap such (sym e) ∙ c)
       (rw e (put r rs (some r (Memᴰ.head refl))).there)

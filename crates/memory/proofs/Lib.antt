@@ -10,6 +10,6 @@ pub mod Fills
 pub mod Locks
 pub mod Resets
 pub mod ResetSettled
-pub mod Filling
+pub mod Fillings
 pub mod ForHistoryStaged
 pub mod ForHistoryFilled

@@ -19,13 +19,12 @@ use Rattle.records.specs.declared.record.Record.{Record}
 use Rattle.records.specs.declared.holder.Found.{Found}
 use Rattle.records.specs.declared.holder.Found.TheVariants.{At, Missing}
 use Rattle.records.proofs.Locations.{mapped_member}
-use Rattle.banks.specs.Rules.{is_lock}
 use Rattle.banks.specs.Values.{value_of, byte_at, lock_byte}
 use Rattle.banks.specs.Facts.{Stands}
 use Rattle.banks.proofs.Places.{holder_within}
 use Rattle.memory.specs.Filled.{selects, chosen, filled_of}
 use Rattle.memory.specs.Promises.{ChangesOnly, locks_bank}
-use Rattle.memory.specs.Reset.{BankReset, BankStays, StoreReset, FillResets}
+use Rattle.memory.specs.Reset.{BankReset, StoreReset, FillResets}
 use Rattle.memory.specs.declared.filled.Filling.TheVariants.{Reset}
 use Rattle.memory.proofs.Fills.{other_fresh, fill_value, fill_changes_only}
 use Rattle.memory.proofs.Locks.{fill_locks}

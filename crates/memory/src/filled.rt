@@ -55,7 +55,7 @@ fn freshen(store: &mut [u8], image: &[u8], r: Record)
 }
 
 // Internal: which records are chosen, by their numbers.
-#[tactic(auto, using(crate::proofs::Filling::few, crate::proofs::Filling::pick_more))]
+#[tactic(auto, using(crate::proofs::Fillings::few, crate::proofs::Fillings::pick_more))]
 fn choices(map: &[u8], store: &[u8], filling: Filling) -> [bool; 64]
     requires { placed map.now (length store.now) ≡ true }
     ensures { Picked map.now store.now filling result }
@@ -72,7 +72,7 @@ fn choices(map: &[u8], store: &[u8], filling: Filling) -> [bool; 64]
 }
 
 // Internal: each value that is chosen takes its fresh bytes. Map, store and image have passed 7 to 10.
-#[tactic(auto, using(crate::proofs::Filling::few, crate::proofs::Filling::done_none, crate::proofs::Filling::done_all, crate::proofs::Filling::fits, crate::proofs::Filling::done_put, crate::proofs::Filling::done_passed))]
+#[tactic(auto, using(crate::proofs::Fillings::few, crate::proofs::Fillings::done_none, crate::proofs::Fillings::done_all, crate::proofs::Fillings::fits, crate::proofs::Fillings::done_put, crate::proofs::Fillings::done_passed))]
 pub fn fill_store(map: &[u8], store: &mut [u8], image: &[u8], filling: Filling)
     requires { (placed map.now (length store.old) ≡ true) × (length image.now ≡ length store.old) }
     ensures { store.new

@@ -27,7 +27,7 @@ use Rattle.records.specs.declared.holder.Why.{Why}
 use Rattle.records.proofs.Walk.{member}
 use Rattle.records.proofs.Members.{rises, members_rise}
 use Rattle.records.proofs.Locations.{holds_is, holder_at, holder_none, none_holder, rising_hit}
-use Rattle.records.proofs.Why.{neither, Among, Near, tells_one, tells_near, why_tells}
+use Rattle.records.proofs.Reasons.{neither, Among, Near, tells_one, tells_near, why_tells}
 
 -- a test comes out one way or the other, and two numbers stand in one of three ways
 pub true_or_false : (b : Bool) → (b ≡ true) ⊎ (b ≡ false)

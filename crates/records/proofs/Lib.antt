@@ -1,7 +1,7 @@
 pub mod Walk
 pub mod Members
 pub mod Locations
-pub mod Why
+pub mod Reasons
 pub mod Missing
 pub mod Halving
 pub mod Neighbours

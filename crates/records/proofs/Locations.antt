@@ -1,7 +1,7 @@
 -- The record that holds a location: it is a record of the map, and of an ordered map there is no second one.
 -- Assumes nothing.
 use mathlib.Core.Path.{◌≡◌, refl, ap, sym, ◌∙◌}
-use mathlib.Core.Logic.{◌⊎◌, inl, inr, ⊎_elim}
+use mathlib.Core.Logic.{inl, inr, ⊎_elim}
 use mathlib.Core.Bool.{true, false}
 use mathlib.Core.List.Memᴰ
 use mathlib.Core.List.{List, [], ◌∷◌, Memᴰ}
@@ -55,6 +55,7 @@ module _ (bank location : ℕ) where
     held_none : (v : Why) (rs : List Record) → held_or (Missing w) rs bank location ≡ Missing v
         → (r : Record) → Memᴰ r rs
         → holds r bank location ≡ false
+    held_none v [] e r m = elim m [ ]
     held_none v (x ∷ rs) e r m =
         ⊎_elim
         (λ q. let z : ◌≡◌ {A = ℕ} 0 1 = cc in absurd (omega arith))
@@ -91,6 +92,7 @@ module _ (bank location : ℕ) where
   -- in a rising list a member that holds the location is what is found
   rising_held : (none : Found) (rs : List Record) → rising rs ≡ true → (r : Record) → Memᴰ r rs
       → holds r bank location ≡ true → held_or none rs bank location ≡ At r
+  rising_held none [] u r x3 t = elim x3 [ ]
   rising_held none (x ∷ rs) u r (Memᴰ.head p) t =
       rw (ap (λ (y : Record). holds y bank location) (sym p) ∙ t) (ap At (sym p))
   rising_held none (x ∷ rs) u r (Memᴰ.tail m) t =

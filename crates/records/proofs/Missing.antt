@@ -19,7 +19,7 @@ use Rattle.records.specs.declared.holder.Why.{Why}
 use Rattle.records.specs.declared.holder.Why.TheVariants.{Absent, Hole, Past}
 use Rattle.records.proofs.Members.{member_fields}
 use Rattle.records.proofs.Locations.{holds_is, is_holding, holder_at, holder_none, none_holder, holder_hit}
-use Rattle.records.proofs.Why.{Tells, tells_one, why_tells}
+use Rattle.records.proofs.Reasons.{Tells, tells_one, why_tells}
 
 module _ (map : List ℕ) (o : ordered map ≡ true) (bank location : ℕ) where
   abbrev Unmapped : Type 0

@@ -20,7 +20,7 @@ use Rattle.records.specs.declared.record.Record.{Record}
 use Rattle.records.specs.declared.holder.Why.{Why}
 use Rattle.records.specs.declared.holder.Why.TheVariants.{Hole, Past}
 use Rattle.records.proofs.Members.{members_rise}
-use Rattle.records.proofs.Why.{nearer_lower, nearer_higher, or_past, told}
+use Rattle.records.proofs.Reasons.{nearer_lower, nearer_higher, or_past, told}
 use Rattle.records.proofs.Turns.{seen, sought_in, sought_starts}
 use Rattle.records.proofs.Halving.{location_is_left, location_not_left}
 

@@ -16,12 +16,11 @@ use Rattle.records.specs.Lookup.{holds, held_or, holder}
 use Rattle.records.specs.Halving.{Wanted, at_location, in_bank, middle, after, visits, visits_of, visited, halved, halved_bank, sought}
 use Rattle.records.specs.Promises.{MoreFuel}
 use Rattle.records.specs.declared.record.Record.{Record}
-use Rattle.records.specs.declared.holder.Found.{Found}
 use Rattle.records.specs.declared.holder.Found.TheVariants.{At, Missing}
 use Rattle.records.specs.declared.holder.Sought.{Sought}
 use Rattle.records.specs.declared.holder.Why.{Why}
 use Rattle.records.specs.declared.holder.Why.TheVariants.{Absent}
-use Rattle.records.proofs.Why.{told, carried, carried_why}
+use Rattle.records.proofs.Reasons.{told, carried, carried_why}
 
 module _ (map : List ℕ) (s : Wanted) where
   -- the middle of low and high, and what comes after it

@@ -12,7 +12,7 @@ use lib.Pow.{pow_pos}
 use lib.ListN.{length}
 use Rattle.laws.specs.Choice.{if◌then◌else◌}
 use Rattle.laws.proofs.Tests.{if_by, if_lt}
-use Rattle.records.specs.Map.{record_at, records_of}
+use Rattle.records.specs.Map.{record_at}
 use Rattle.records.specs.Order.{ordered}
 use Rattle.records.specs.Lookup.{holds, holder}
 use Rattle.records.specs.Facts.{Before, Holds, Distinct, AgreeAt}
