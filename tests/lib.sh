@@ -39,16 +39,16 @@ libraries() {
     return 1
 }
 
+# crates_to FOLDER: the text of all crates, copied there, without what `rt` made of it
+crates_to() {
+    for text in crates/*/src crates/*/specs crates/*/proofs; do
+        [ ! -d "$text" ] || { mkdir -p "$1/${text%/*}" && cp -R "$text" "$1/$text"; } || return
+    done
+}
+
 # copy NAME: the crates, copied to a folder of this name in the test's room, which is then the working folder; what is proved
 # already, and did not change, `rt` does not prove again there. `root` is the repository's folder
-copy() {
-    mkdir "$room/$1" "$room/$1/.git" && cp "$root/crates.txt" "$room/$1" || exit 1
-    for part in "$root"/crates/*/src "$root"/crates/*/specs "$root"/crates/*/proofs; do
-        to=$room/$1/${part#"$root/"}
-        [ ! -d "$part" ] || { mkdir -p "${to%/*}" && cp -R "$part" "$to"; } || exit 1
-    done
-    cd "$room/$1" || exit 1
-}
+copy() { mkdir "$room/$1" && cd "$root" && cp crates.txt "$room/$1" && crates_to "$room/$1" && cd "$room/$1" || exit 1; }
 
 # each_refused NAME..: each of these functions, side by side in copies of their own, sees its error refused; what it says is shown
 each_refused() {
