@@ -104,6 +104,9 @@ text_of() {
     } 2>/dev/null | cksum
 }
 
+# stands CRATE: something was made of it, perhaps of an older text
+stands() { [ -f "crates/$1/out/rlib/stamp" ] || [ -f "$(built "$1")" ]; }
+
 # is_fresh NAME: what stands there was built of this text once it was proved; note NAME TEXT: so it is
 is_fresh() { [ -f "$(built "$1")" ] && [ "$(cat "target/proved/$1" 2>/dev/null)" = "$(note_of "$1" "$(text_of "$1")")" ]; }
 note_of() { printf '%s\n%s\n' "$2" "$(cksum <"$(built "$1")")"; }
@@ -117,10 +120,10 @@ prove() {
     stale=''
     for name; do is_fresh "$name" || stale="$stale $name"; done
     [ -n "$stale" ] || return 0
-    all=0 missing=0
-    for crate in $(crates_for $stale); do
+    all=0 missing=0 crates=$(crates_for $stale)
+    for crate in $crates; do
         all=$((all + 1))
-        [ -f "crates/$crate/out/rlib/stamp" ] || [ -f "$(built "$crate")" ] || missing=$((missing + 1))
+        stands "$crate" || missing=$((missing + 1))
     done
     [ "$missing" -eq 0 ] || say "proving what this needs: $missing of $all crates, which can take minutes"
     { in_turn && build_each $stale 2>&1 9<&- && echo 'all is proved'; } 9<crates.txt | say_progress
@@ -149,7 +152,8 @@ in_turn() {
     flock 9
 }
 
-# say_progress: of what `rt` prints
+# say_progress: of what `rt` prints. It is silent about a library that another copy of the repository had proved: those that stand
+# now are counted too.
 say_progress() {
     at=$((all - missing)) seen=' ' name='' printed='' began=$(date +%s)
     while IFS= read -r line; do
@@ -162,7 +166,9 @@ say_progress() {
             *) continue ;;
         esac
         case $seen in *" $name "*) continue ;; esac
-        now=$(date +%s) seen="$seen$name " at=$((at < all ? at + 1 : all))
+        now=$(date +%s) seen="$seen$name " others=0
+        for crate in $crates; do [ "$crate" = "$name" ] || ! stands "$crate" || others=$((others + 1)); done
+        at=$((others > at ? others + 1 : at < all ? at + 1 : all))
         say "proving $at of $all: $name, $((now - began)) s"
         began=$now
     done
