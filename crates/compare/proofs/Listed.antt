@@ -78,6 +78,7 @@ length_items item i (suc n) = ap suc (length_items item (suc i) n)
 
 -- the numbers below a bound are its members
 pub items_is : (n i j : ℕ) → Memᴰ j (items (λ i. i) i n) → (i ≤ j) × (j < i + n)
+items_is zero i j m = elim m [ ]
 items_is (suc n) i j (Memᴰ.head e) = (omega arith, omega arith)
 items_is (suc n) i j (Memᴰ.tail m) =
     let x = items_is n (suc i) j m in
@@ -91,6 +92,7 @@ is_below n i h = Memᴰ.cast (sym (zero-add i)) (items_member (λ i. i) 0 n i h)
 
 -- of a list those that pass a test are the members that do
 pub of_those : (f : ℕ → Bool) (l : List ℕ) (i : ℕ) → Memᴰ i (those f l) → Memᴰ i l × (f i ≡ true)
+of_those f [] i m = elim m [ ]
 of_those f (j ∷ l) i m = go (of_those f l i) (f j) refl m
   where
     go : (Memᴰ i (those f l) → Memᴰ i l × (f i ≡ true)) → (b : Bool) → f j ≡ b
@@ -101,6 +103,7 @@ of_those f (j ∷ l) i m = go (of_those f l i) (f j) refl m
     go behind false t k = (Memᴰ.tail (behind k).0, (behind k).1)
 
 to_those : (f : ℕ → Bool) (l : List ℕ) (i : ℕ) → Memᴰ i l → f i ≡ true → Memᴰ i (those f l)
+to_those f [] i m t = elim m [ ]
 to_those f (j ∷ l) i m t = go (λ k. to_those f l i k t) (f j) refl m
   where
     go : (Memᴰ i l → Memᴰ i (those f l)) → (b : Bool) → f j ≡ b → Memᴰ i (j ∷ l)
@@ -111,9 +114,9 @@ to_those f (j ∷ l) i m t = go (λ k. to_those f l i k t) (f j) refl m
     go behind false q (Memᴰ.tail k) = behind k
 
 -- a test as a number is 0 or 1
-pub bool_byte : (b : Bool) → bool_byte b ≤ 1
-bool_byte true = omega arith
-bool_byte false = omega arith
+pub bool_byte_lem : (b : Bool) → bool_byte b ≤ 1
+bool_byte_lem true = omega arith
+bool_byte_lem false = omega arith
 
 module _ (map old new : List ℕ) where
   abbrev listed : ℕ → Bool

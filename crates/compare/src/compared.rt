@@ -37,7 +37,7 @@ fn both_number(map: &[u8], old: &[u8], new: &[u8]) -> u8
 }
 
 // The list of the values that differ, over the output; the count is known before anything is written.
-#[tactic(auto, using(crate::proofs::Numbered::zero_both_placed, crate::proofs::Numbered::few, crate::proofs::Numbered::number_refused, crate::proofs::Numbered::number_15, crate::proofs::Numbered::number_0, crate::proofs::Numbered::refuses, crate::proofs::Numbered::lists))]
+#[tactic(auto, using(crate::proofs::Numbered::zero_both_placed, crate::proofs::Numbered::few))]
 pub fn compare(map: &[u8], old: &[u8], new: &[u8], output: &mut [u8]) -> Compared
     ensures { ComparePromise map.now old.now new.now output.old
         result output.new }

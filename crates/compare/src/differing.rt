@@ -33,7 +33,7 @@ pub fn is_different(old: &[u8], new: &[u8], r: Record) -> bool
 }
 
 // Internal: how many values differ. Map and first store have passed 7 to 10, and the second is as long.
-#[tactic(auto, using(records::proofs::Walk::member, crate::proofs::Listed::in_both, crate::proofs::Listed::rest, crate::proofs::Listed::rest_start, crate::proofs::Listed::rest_end, crate::proofs::Listed::bool_byte, crate::proofs::Listed::counted_more))]
+#[tactic(auto, using(crate::proofs::Listed::rest_start, crate::proofs::Listed::rest_end, crate::proofs::Listed::bool_byte_lem, crate::proofs::Listed::counted_more))]
 pub fn count_differing(map: &[u8], old: &[u8], new: &[u8]) -> usize
     requires { BothPlaced map.now old.now new.now }
     ensures { result ≡ length (differing map.now old.now new.now) }

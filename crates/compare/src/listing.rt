@@ -10,7 +10,6 @@ use banks::padded_part;
 use records::{Record, places_end, record_at, records};
 
 // Internal: eight bytes, from a place of the output on.
-#[tactic(auto, using(crate::proofs::Written::paste_more, crate::proofs::Written::paste_all))]
 fn put_eight(output: &mut [u8], at: usize, bytes: [u8; 8])
     requires { at + 8 ≤ length output.old }
     ensures { output.new ≡ put at bytes output.old }
@@ -34,7 +33,6 @@ fn value_bytes(store: &[u8], r: Record) -> [u8; 8]
 }
 
 // Internal: bank, first location, width, kind, four zeros, old bytes, new bytes.
-#[tactic(auto, using(crate::proofs::Written::put_three), unfolding(crate::specs::Compare::difference_of))]
 fn put_difference(output: &mut [u8], at: usize, r: Record, old: &[u8], new: &[u8])
     requires { (at + 24 ≤ length output.old) × InBoth r old.now new.now }
     ensures { output.new ≡ put at (difference_of old.now new.now r) output.old }
@@ -61,7 +59,7 @@ fn put_if(output: &mut [u8], at: usize, r: Record, old: &[u8], new: &[u8]) -> us
 }
 
 // Internal: the list, over the output, which has room for it. Map and first store have passed 7 to 10, and the second is as long.
-#[tactic(auto, using(records::proofs::Walk::member, crate::proofs::Written::as_long, crate::proofs::Listed::in_both, crate::proofs::Turns::begins, crate::proofs::Turns::has_room, crate::proofs::Turns::next, crate::proofs::Turns::ends))]
+#[tactic(auto, using(crate::proofs::Written::as_long, crate::proofs::Turns::begins))]
 pub fn put_list(map: &[u8], old: &[u8], new: &[u8], output: &mut [u8])
     requires { BothPlaced map.now old.now new.now
         × (24 * length (differing map.now old.now new.now) ≤ length output.old) }

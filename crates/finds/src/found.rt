@@ -24,7 +24,7 @@ fn refused(number: u8) -> Finding
 }
 
 // Which value holds the location, or why none does; and how many records the look-up examined.
-#[tactic(auto, using(records::proofs::Ordered::zero_ordered, crate::proofs::Finds::find_refused, crate::proofs::Finds::find_sought, crate::proofs::Finds::sought_fits))]
+#[tactic(auto, using(records::proofs::Ordered::zero_ordered, crate::proofs::Finds::find_refused, crate::proofs::Finds::find_sought))]
 pub fn find(map: &[u8], bank: u8, location: u8) -> Finding
     ensures { FindPromise map.now bank location result }
 {

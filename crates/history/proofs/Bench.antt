@@ -64,6 +64,7 @@ module _ (rs : List Record) (who : Who) (v : Record) (F : FieldsHold v) where
   no_writing : (h : List Input) → never rs who v h ≡ true → (i : ℕ) → i < length h → (bs : List ℕ)
       → ¬ WritingAt rs who v bs (past h (suc i))
   unfolding never
+  no_writing [] e i l bs w = elim l [ ]
   no_writing (x ∷ h) e i l bs w = go (no_writing h p.1 i) (last_or i (length h) l)
     where
       p : (ltb (length (ripe rs who v (x ∷ h))) v.width ≡ true) × (never rs who v h ≡ true)

@@ -1,23 +1,22 @@
 -- A state comes back from its bytes, and 96 bytes that are a state's come back from that state.
 -- Assumes nothing.
-use Prim.Native.Nat.{ℕ, zero, suc, ◌+◌, ◌-◌, ◌*◌, ◌/◌, ◌%◌, ◌^◌, ◌≤◌, ◌<◌}
+use Prim.Native.Nat.{ℕ, zero, suc, ◌+◌, ◌-◌, ◌/◌, ◌%◌, ◌^◌, ◌≤◌, ◌<◌}
 use mathlib.Core.Path.{◌≡◌, refl, sym, ap, ◌∙◌}
 use mathlib.Core.Bool.{Bool, true, false, ◌&&◌}
 use mathlib.Core.List.{List, [], ◌∷◌, ◌++◌}
 use native.Mathlib.Omega.{arith}
 use lib.Dec.{leb, eqb}
-use borrow.Author.Tests.{leb-true, eq-eqb, ne_eqb}
-use lib.ListN.{length, get_or, take, drop, replicate, length-drop, take-append-drop}
+use borrow.Author.Tests.{leb-true}
+use lib.ListN.{length, take, drop, replicate, length-drop, take-append-drop}
 use Rattle.laws.specs.Bits.{bits}
 use Rattle.laws.specs.Lists.{items, every}
 use Rattle.laws.specs.Parts.{part}
 use Rattle.laws.proofs.Tests.{both}
 use Rattle.laws.proofs.Bits.{above_all, above_none, cut}
 use Rattle.rooms.specs.State.{with_who, with_registers, with_waiting, with_door, with_latch}
-use Rattle.rooms.specs.declared.state.State.{State}
 use Rattle.entries.specs.Entry.{four_bytes}
 use Rattle.packing.specs.StateBytes.{flag, four_of, used, state_bytes, four_at, state_of, shape_holds}
-use Rattle.packing.specs.Promises.{StateHeld, StateBack, Bytes, BytesBack}
+use Rattle.packing.specs.Promises.{StateBack, Bytes, BytesBack}
 use Rattle.packing.proofs.Spelled.{at, part_items, spelled, zeros_are}
 
 -- a number is its four bytes

@@ -1,6 +1,6 @@
 -- Worked cases: the places of a state's 96 bytes, and which bytes are a state's.
 -- Assumes nothing.
-use Rattle.std.specs.Prelude.{ℕ, ◌≡◌, Bool, true, false, List, [], ◌∷◌, ◌++◌, set, replicate}
+use Rattle.std.specs.Prelude.{ℕ, ◌≡◌, Bool, true, false, List, [], ◌∷◌, set, replicate}
 use Rattle.rooms.specs.declared.state.State.{State}
 use Rattle.packing.specs.StateBytes.{state_bytes, state_of, shape_holds}
 

@@ -1,6 +1,6 @@
 -- A state as 96 bytes, high bytes first, and back.
 -- Assumes nothing.
-use Rattle.std.specs.Prelude.{ℕ, ◌+◌, ◌-◌, Bool, true, false, ◌&&◌, List, [], ◌∷◌, ◌++◌, leb, eqb, get_or, drop, replicate}
+use Rattle.std.specs.Prelude.{ℕ, ◌+◌, ◌-◌, Bool, ◌&&◌, List, [], ◌∷◌, ◌++◌, leb, eqb, get_or, drop, replicate}
 use Rattle.laws.specs.Choice.{if◌then◌else◌}
 use Rattle.laws.specs.Bits.{bits}
 use Rattle.laws.specs.Lists.{every}

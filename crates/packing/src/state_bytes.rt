@@ -169,7 +169,6 @@ fn put_eight(bytes: [u8; 96], i: usize, eight: [u8; 8]) -> [u8; 96]
 }
 
 // The bytes of a state.
-#[tactic(auto, using(crate::proofs::Packed::packed))]
 pub fn pack(state: State) -> [u8; 96]
     ensures { PackPromise state result }
 {

@@ -7,16 +7,16 @@ use mathlib.Core.Bool.{true, false}
 use mathlib.Core.List.{List}
 use native.Mathlib.Omega.{arith}
 use borrow.Author.Tests.{eqb-true, eq-eqb, ne_eqb, leb-true, le-leb}
-use lib.Dec.{leb, eqb}
+use lib.Dec.{eqb}
 use lib.ListN.{length}
-use Rattle.laws.specs.Numbers.{Test, first_failing}
+use Rattle.laws.specs.Numbers.{first_failing}
 use Rattle.laws.proofs.Tests.{if_eq, both}
 use Rattle.laws.proofs.Numbers.{exactly_if, none_exactly_if}
 use Rattle.laws.proofs.Joined.{joined_none, joined_some}
 use Rattle.laws.proofs.Settled.{settles}
 use Rattle.records.specs.Map.{records_of, writable}
 use Rattle.records.specs.Order.{ordered, order_tests, order_number}
-use Rattle.records.specs.Lookup.{holder, beginner}
+use Rattle.records.specs.Lookup.{beginner}
 use Rattle.records.specs.Facts.{Member}
 use Rattle.records.specs.declared.record.Record.{Record}
 use Rattle.records.specs.declared.holder.Beginning.{Beginning}

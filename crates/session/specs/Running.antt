@@ -15,7 +15,7 @@ use Rattle.hearing.specs.Pairs.{heard_at, passed, none_waits}
 use Rattle.rooms.specs.State.{with_registers, with_waiting, with_door, open_door}
 use Rattle.rooms.specs.declared.state.State.{State}
 use Rattle.numbers.specs.Numbers.{power_number}
-use Rattle.unit.specs.Run.{Input, hears, Run, run_from}
+use Rattle.unit.specs.Run.{Input, hears, run_from}
 use Rattle.unit.specs.Keeping.{AllAccepted}
 use Rattle.unit.specs.Bench.{none, answer}
 use Rattle.session.specs.Session.{session_of}

@@ -50,7 +50,7 @@ fn opened(address: u8, bank: u8) -> Session
 }
 
 // Internal: the frames that write a value: DTR1, the ENABLE pair, the bytes, and round them the lock byte.
-#[tactic(auto, using(crate::proofs::Growing::opened_count, crate::proofs::Growing::unlocked_count, crate::proofs::Growing::whole_count, crate::proofs::Growing::fits, crate::proofs::Growing::all_sent))]
+#[tactic(auto, using(crate::proofs::Growing::opened_count, crate::proofs::Growing::all_sent))]
 fn written(address: u8, r: Record, bytes: &[u8]) -> Session
     requires { (length bytes.now ≤ 8) × (r.first + length bytes.now ≤ 255) }
     ensures { result ≡ session_with (messages_of address r bytes.now) }
@@ -99,7 +99,7 @@ fn begins_at(map: &[u8], bank: u32, location: u32) -> Beginning
 }
 
 // The frames that write the bytes to the value that begins at the bank and location, in the unit of that short address.
-#[tactic(auto, using(records::proofs::Members::member_fields, records::proofs::Ordered::zero_ordered, crate::proofs::Numbered::begins_in, crate::proofs::Numbered::number_refused, crate::proofs::Numbered::none_begins, crate::proofs::Numbered::session_refused, crate::proofs::Numbered::session_value))]
+#[tactic(auto, using(records::proofs::Ordered::zero_ordered, crate::proofs::Numbered::number_refused, crate::proofs::Numbered::none_begins, crate::proofs::Numbered::session_refused, crate::proofs::Numbered::session_value))]
 pub fn session(map: &[u8], address: u32, bank: u32, location: u32, bytes: &[u8]) -> Session
     ensures { SessionPromise map.now address bank location bytes.now result }
 {

@@ -1,22 +1,19 @@
 -- A run over two lists of records, one after the other, is the run over both; how much it writes; 13 and the tail.
 -- Assumes nothing.
-use Prim.Native.Nat.{ℕ, suc, ◌+◌, ◌*◌, ◌<◌}
+use Prim.Native.Nat.{ℕ, ◌<◌}
 use mathlib.Core.Path.{◌≡◌, refl, ap, sym, ◌∙◌}
 use mathlib.Core.Bool.{Bool, true, false}
 use mathlib.Core.List.{List, [], ◌∷◌, ◌++◌, append-nil, append_assoc}
 use native.Mathlib.Omega.{arith}
 use borrow.Author.Tests.{ne_eqb}
 use lib.Dec.{eqb}
-use lib.ListN.{length}
 use Rattle.laws.specs.Choice.{if◌then◌else◌}
-use Rattle.laws.specs.Lists.{some}
 use Rattle.hearing.specs.Pairs.{heard_at}
 use Rattle.rooms.specs.declared.state.State.{State}
 use Rattle.unit.specs.Run.{power_on, hears, input_of, output_of}
-use Rattle.entries.specs.Entry.{is_broken}
 use Rattle.tracing.specs.Trace.{Traced, traced_of, broken, closed}
 use Rattle.tracing.specs.Run.{behind, continued}
-use Rattle.tracing.specs.Promises.{OneAfterOther, answered_count, FourEach, ThirteenEnds}
+use Rattle.tracing.specs.Promises.{OneAfterOther, FourEach, ThirteenEnds}
 use Rattle.entries.specs.declared.entry.Entry.{Entry}
 
 module _ (map image : List ℕ) where

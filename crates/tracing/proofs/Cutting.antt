@@ -14,7 +14,7 @@ use Rattle.unit.specs.Step.{start_of}
 use Rattle.entries.specs.Entry.{whole_entries}
 use Rattle.entries.specs.Promises.{is_whole}
 use Rattle.entries.proofs.Joined.{whole_joined}
-use Rattle.tracing.specs.Trace.{Traced, traced_of, who_of, file_number, closed, trace_of}
+use Rattle.tracing.specs.Trace.{Traced, traced_of, who_of, file_number, trace_of}
 use Rattle.tracing.specs.Run.{continued}
 use Rattle.tracing.specs.Promises.{begun, in_slices, joined, CutAnywhere}
 use Rattle.tracing.proofs.Continued.{continued_more, continued_none}

@@ -13,7 +13,6 @@ use Rattle.laws.specs.Lists.{items}
 use Rattle.laws.specs.Outcome.{Gives}
 use Rattle.laws.specs.Parts.{put}
 use Rattle.laws.proofs.Items.{items_start, items_end, items_cons}
-use Rattle.laws.proofs.Parts.{length_put}
 use Rattle.laws.proofs.Tests.{if_lt, both, denied, not_denied}
 use Rattle.rooms.specs.Reply.{refusing}
 use Rattle.rooms.specs.declared.state.State.{State}
@@ -23,7 +22,7 @@ use Rattle.unit.specs.Run.{input_of, output_of}
 use Rattle.entries.specs.Entry.{entry_at, entries, is_broken}
 use Rattle.entries.specs.declared.entry.Entry.{Entry}
 use Rattle.tracing.specs.Trace.{Traced, traced_of}
-use Rattle.tracing.specs.Run.{turn_of, behind, continued, so_far, Begins, Turns, room_for, Runs}
+use Rattle.tracing.specs.Run.{turn_of, continued, so_far, Begins, Turns, room_for, Runs}
 use Rattle.tracing.specs.declared.runs.Ran.{Ran}
 use Rattle.tracing.proofs.Checks.{one_check}
 use Rattle.tracing.proofs.Continued.{continued_more, continued_none, continued_ended}

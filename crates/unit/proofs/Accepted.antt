@@ -108,7 +108,8 @@ module _ (map image : List ℕ) where
   all_accepted store s e (x ∷ xs) i =
       let b = both (is_input x) (every is_input xs) i in
       let k = one_accepted store s e x b.0 in
-      (k.0, all_accepted _ _ k.1 xs b.1)
+      let o = input_of map image store s x in
+      (k.0, all_accepted o.store o.answer.state k.1 xs b.1)
 
 pub run_accepted : RunAccepted
 run_accepted map store image who e xs i = all_accepted map image _ _ ((accepted_again map store image).start who e) xs i
