@@ -50,6 +50,24 @@ crates_to() {
 # already, and did not change, `rt` does not prove again there. `root` is the repository's folder
 copy() { mkdir "$room/$1" && cd "$root" && cp crates.txt "$room/$1" && crates_to "$room/$1" && cd "$room/$1" || exit 1; }
 
+# change FILE OLD NEW: the text must stand in the file, once
+change() {
+    OLD=$2 NEW=$3 awk '
+        { text = text $0 "\n" }
+        END {
+            old = ENVIRON["OLD"]; at = index(text, old)
+            if (!at) exit 3
+            rest = substr(text, at + length(old))
+            if (index(rest, old)) exit 4
+            printf "%s%s%s", substr(text, 1, at - 1), ENVIRON["NEW"], rest
+        }' "$1" >"$1.changed"
+    case $? in
+        0) mv "$1.changed" "$1" ;;
+        3) printf 'not found in %s: %s\n' "$1" "$2"; return 1 ;;
+        *) printf 'more than once in %s: %s\n' "$1" "$2"; return 1 ;;
+    esac
+}
+
 # each_refused NAME..: each of these functions, side by side in copies of their own, sees its error refused; what it says is shown
 each_refused() {
     for error; do
