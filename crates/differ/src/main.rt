@@ -7,47 +7,48 @@ mod words; // a difference, and how many there are
 
 ghost use Rattle.std.specs.Prelude.{◌≤◌, length};
 
-use libc::{STDERR_FILENO, STDIN_FILENO, STDOUT_FILENO};
+use std::io::Print;
+use streams::{read_full, write_all};
 use text::{Line, say_refusal};
 use words::{say_count, say_difference};
 
 // The first bytes of a text. Answers whether all of them are written.
-fn print_first(fd: i32, text: [u8; 256], n: u8) -> bool {
+fn print_first<W: Print>(output: &W, text: [u8; 256], n: u8) -> bool {
     let end = n as usize;
-    io::write_all(fd, &text[0..end])
+    write_all(output, &text[0..end])
 }
 
-fn print(fd: i32, line: Line) -> bool {
+fn print<W: Print>(output: &W, line: Line) -> bool {
     let ended = line.ended();
     let text = ended.text;
-    print_first(fd, text, ended.length)
+    print_first(output, text, ended.length)
 }
 
 // A program has no status of its own to end with: what it could not do it says on standard error.
-fn refuse(number: u8) {
-    print(STDERR_FILENO, say_refusal(Line::new(), number));
+fn refuse(rt: &HostRuntime, number: u8) {
+    print(&rt.stderr(), say_refusal(Line::new(), number));
 }
 
-fn say_missing() {
-    io::write_all(
-        STDERR_FILENO,
+fn say_missing(rt: &HostRuntime) {
+    write_all(
+        &rt.stderr(),
         b"differ: map and stores are not whole on standard input\n",
     );
 }
 
-fn say_lost() {
-    io::write_all(
-        STDERR_FILENO,
+fn say_lost(rt: &HostRuntime) {
+    write_all(
+        &rt.stderr(),
         b"differ: standard output cannot be written: the rest is lost\n",
     );
 }
 
 // A line for each difference of the list. Answers whether all are written.
-fn print_lines(list: &[u8]) -> bool {
+fn print_lines(rt: &HostRuntime, list: &[u8]) -> bool {
     let mut at = 0;
     while list.len() - at >= 24 {
         let end = at + 24;
-        if !print(STDOUT_FILENO, say_difference(Line::new(), &list[at..end])) {
+        if !print(&rt.stdout(), say_difference(Line::new(), &list[at..end])) {
             return false;
         }
         at = end;
@@ -56,25 +57,25 @@ fn print_lines(list: &[u8]) -> bool {
 }
 
 // The list as it is; or in words, with the count behind them. Answers whether all is written.
-fn print_list(bytes: bool, list: &[u8], count: u8) -> bool {
+fn print_list(rt: &HostRuntime, bytes: bool, list: &[u8], count: u8) -> bool {
     if bytes {
-        return io::write_all(STDOUT_FILENO, list);
+        return write_all(&rt.stdout(), list);
     }
-    print_lines(list) && print(STDOUT_FILENO, say_count(Line::new(), count))
+    print_lines(rt, list) && print(&rt.stdout(), say_count(Line::new(), count))
 }
 
 // The list has room for 64 differences of 24 bytes: a map has no more values.
 #[tactic(auto, using(compare::proofs::Numbered::compare_most))]
-fn differ(bytes: bool, map: &[u8], old: &[u8], new: &[u8]) {
+fn differ(rt: &HostRuntime, bytes: bool, map: &[u8], old: &[u8], new: &[u8]) {
     let mut list = [0u8; 1536];
     let compared = compare::compare(map, old, new, &mut list);
     if compared.number != 0 {
-        refuse(compared.number);
+        refuse(rt, compared.number);
         return;
     }
     let end = 24 * compared.count as usize;
-    if !print_list(bytes, &list[0..end], compared.count) {
-        say_lost();
+    if !print_list(rt, bytes, &list[0..end], compared.count) {
+        say_lost(rt);
     }
 }
 
@@ -87,34 +88,34 @@ fn length_of(high: u8, low: u8, room: usize) -> usize
 }
 
 // Internal: fills the first bytes of a room. Answers whether all of them came.
-fn fill(room: &mut [u8], n: usize) -> bool
+fn fill(rt: &HostRuntime, room: &mut [u8], n: usize) -> bool
     requires { n ≤ length room.old }
 {
-    io::read_full(STDIN_FILENO, &mut room[0..n]) == n
+    read_full(&mut rt.stdin(), &mut room[0..n]) == n
 }
 
 // Internal: reads map and stores, of these lengths, and compares. Answers whether all of them came.
 // Rooms of one byte more than the limits, so that a longer one is seen to be longer.
-fn differ_parts(bytes: bool, mapped: usize, stored: usize, other: usize) -> bool
+fn differ_parts(rt: &HostRuntime, bytes: bool, mapped: usize, stored: usize, other: usize) -> bool
     requires { (mapped ≤ 513) × (stored ≤ 4097) × (other ≤ 4097) }
 {
     let mut map = [0u8; 513];
     let mut old = [0u8; 4097];
     let mut new = [0u8; 4097];
-    if fill(&mut map, mapped) && fill(&mut old, stored) && fill(&mut new, other) {
-        differ(bytes, &map[0..mapped], &old[0..stored], &new[0..other]);
+    if fill(rt, &mut map, mapped) && fill(rt, &mut old, stored) && fill(rt, &mut new, other) {
+        differ(rt, bytes, &map[0..mapped], &old[0..stored], &new[0..other]);
         return true;
     }
     false
 }
 
-fn main() {
+fn main(rt: HostRuntime) {
     let mut asked = [0u8; 7];
-    let whole = fill(&mut asked, 7);
+    let whole = fill(&rt, &mut asked, 7);
     let mapped = length_of(asked[1], asked[2], 513);
     let stored = length_of(asked[3], asked[4], 4097);
     let other = length_of(asked[5], asked[6], 4097);
-    if !(whole && differ_parts(asked[0] == 1, mapped, stored, other)) {
-        say_missing();
+    if !(whole && differ_parts(&rt, asked[0] == 1, mapped, stored, other)) {
+        say_missing(&rt);
     }
 }

@@ -1,12 +1,16 @@
 // A file of the working folder.
-ghost use Rattle.io.specs.Counts.{IsPrefixLen};
+ghost use Rattle.std.specs.Prelude.{◌≡◌, ◌≤◌, length, take};
+
+use std::fs;
+use streams::read_full;
 
 // A missing file counts as empty: nothing is read from what could not be opened.
-pub fn read_file(name: &[u8], room: &mut [u8]) -> usize
-    ensures { IsPrefixLen result room.new }
+pub fn read_file(rt: &HostRuntime, name: &str, room: &mut [u8]) -> usize
+    ensures within { result ≤ length room.new }
+    ensures part { result ≡ length (take result room.new) }
 {
-    let fd = os::open_read(name);
-    let n = io::read_full(fd, room);
-    libc::close(fd);
-    n
+    match fs::open(rt, name) {
+        Ok(mut file) => read_full(&mut file, room),
+        Err(_) => 0,
+    }
 }

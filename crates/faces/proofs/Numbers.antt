@@ -22,7 +22,6 @@ use Rattle.unit.specs.Step.{step_of, power_on_of}
 use Rattle.unit.specs.Promises.{number_of, Refuses as UnitRefuses}
 use Rattle.unit.proofs.Numbers.{calls_refused, calls_reply}
 use Rattle.packing.specs.StateBytes.{four_of, state_bytes, state_of, shape_holds}
-use Rattle.packing.specs.Promises.{Bytes}
 use Rattle.packing.proofs.Round.{bytes_back}
 use Rattle.faces.specs.Face.{faced_by, then_number, on_bytes, frame_face, power_on_face, start_face}
 use Rattle.faces.proofs.Faced.{then_some}

@@ -19,9 +19,9 @@ use Rattle.rooms.specs.declared.state.State.{State}
 use Rattle.numbers.specs.Numbers.{step_number, power_number}
 use Rattle.numbers.proofs.Numbers.{tests_in_order}
 use Rattle.unit.specs.Step.{step_of, power_on_of}
-use Rattle.unit.specs.Run.{Input, power_on, hears, Run, input_of, output_of, run_from}
+use Rattle.unit.specs.Run.{Input, power_on, hears, input_of, output_of, run_from}
 use Rattle.entries.specs.Entry.{is_broken}
-use Rattle.tracing.specs.Trace.{inputs_of, broken, Traced, traced_of}
+use Rattle.tracing.specs.Trace.{inputs_of, broken, traced_of}
 use Rattle.tracing.specs.Run.{Runs}
 use Rattle.entries.specs.declared.entry.Entry.{Entry}
 use Rattle.tracing.specs.declared.runs.Ran.{Ran}

@@ -12,7 +12,7 @@ use Rattle.looks.specs.declared.looked.Looked.{Looked}
 use Rattle.rooms.specs.declared.reply.Reply.{Reply}
 use Rattle.packing.specs.StateBytes.{flag}
 use Rattle.faces.specs.Answers.{reply_word, look_word}
-use Rattle.faces.specs.Promises.{ReplyBack, RepliesBack, LookBack, LooksBack, WritingsBack}
+use Rattle.faces.specs.Promises.{RepliesBack, LooksBack, WritingsBack}
 
 -- x | y << 8 | z << 16
 module _ (w x y z : ℕ) (e : w ≡ x + y * 2 ^ 8 + z * 2 ^ 16) (p : x < 2 ^ 8) where

@@ -1,7 +1,7 @@
 // The capture on standard input, slice after slice, and its census so far.
 ghost use Rattle.std.specs.Prelude.{◌<◌, ◌≤◌, length};
 
-use libc::STDIN_FILENO;
+use std::io::Read as _;
 
 // How the count ended: with the input; by a record of unknown kind, or by one of which only some
 // bytes are there; or because nothing more can be read.
@@ -44,15 +44,19 @@ pub fn records(counts: &[u64; 16]) -> u64 {
 }
 
 // Internal: reads once, behind the bytes that are kept.
-fn read_more(input: &mut [u8], kept: usize) -> Read
+fn read_more(rt: &HostRuntime, input: &mut [u8], kept: usize) -> Read
     requires { kept ≤ length input.old }
     ensures { result.filled ≤ length input.new }
 {
-    let got = libc::read(STDIN_FILENO, &mut input[kept..]);
-    let filled = kept + io::count(got, &input[kept..]);
-    Read {
-        filled: filled,
-        failed: got < 0,
+    match rt.stdin().read(&mut input[kept..]) {
+        Ok(n) => Read {
+            filled: kept + n,
+            failed: false,
+        },
+        Err(_) => Read {
+            filled: kept,
+            failed: true,
+        },
     }
 }
 
@@ -111,11 +115,11 @@ fn count_whole(counts: &mut [u64; 16], input: &mut [u8], filled: usize) -> Turn
 }
 
 // Internal: reads once, and counts what is whole then.
-fn count_some(counts: &mut [u64; 16], input: &mut [u8], kept: usize) -> Turn
+fn count_some(rt: &HostRuntime, counts: &mut [u64; 16], input: &mut [u8], kept: usize) -> Turn
     requires { (kept < 8) × (8 ≤ length input.old) }
     ensures { result.kept < 8 }
 {
-    let read = read_more(input, kept);
+    let read = read_more(rt, input, kept);
     if read.failed {
         return Turn {
             kept: kept,
@@ -132,8 +136,8 @@ fn count_some(counts: &mut [u64; 16], input: &mut [u8], kept: usize) -> Turn
 
 // Adds the capture's census to the counts. A proved loop has to end, and nothing says that the
 // input does: so it counts its turns down, from a number that no run uses up.
-pub fn count_all(counts: &mut [u64; 16]) -> End {
-    let mut input = io::large_buffer();
+pub fn count_all(rt: &HostRuntime, counts: &mut [u64; 16]) -> End {
+    let mut input = [0u8; 65536];
     let mut turn = Turn {
         kept: 0,
         more: true,
@@ -141,7 +145,7 @@ pub fn count_all(counts: &mut [u64; 16]) -> End {
     };
     let mut turns = u64::MAX;
     while turns > 0 && turn.more {
-        turn = count_some(counts, &mut input, turn.kept);
+        turn = count_some(rt, counts, &mut input, turn.kept);
         turns -= 1;
     }
     turn.end

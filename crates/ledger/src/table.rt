@@ -5,7 +5,7 @@ ghost use Rattle.std.specs.Prelude.{◌<◌, ◌≤◌};
 use crate::bars::bar;
 use crate::input::frame_records;
 use crate::written::{digits, write_aligned};
-use libc::STDOUT_FILENO;
+use streams::write_all;
 
 // The names, each with the spaces up to the numbers.
 const NAMES: [u8; 850] = *b"\
@@ -25,7 +25,7 @@ const NAMES: [u8; 850] = *b"\
     malformed power events                            \
     reserved events                                   \
     frame records                                     \
-    power_on records                                  \
+    power-on records                                  \
 ";
 
 const FRAME_RECORDS: usize = 15;
@@ -48,35 +48,35 @@ fn largest_class(counts: &[u64; 16]) -> u64 {
 }
 
 // Internal: a name and its number. Answers whether both are written.
-fn write_row(row: usize, number: u64, width: usize) -> bool
+fn write_row(rt: &HostRuntime, row: usize, number: u64, width: usize) -> bool
     requires { (row < 17) × (width ≤ 20) }
 {
     let from = 50 * row;
     let end = from + 50;
-    io::write_all(STDOUT_FILENO, &NAMES[from..end]) && write_aligned(number, width)
+    write_all(&rt.stdout(), &NAMES[from..end]) && write_aligned(rt, number, width)
 }
 
 // A bar, behind two spaces; nothing for nothing. Answers whether all of it is written.
-fn write_bar(count: u64, largest: u64) -> bool {
+fn write_bar(rt: &HostRuntime, count: u64, largest: u64) -> bool {
     if count == 0 {
         return true;
     }
     let end = 2 + bar(count, largest);
-    io::write_all(STDOUT_FILENO, &BAR[0..end])
+    write_all(&rt.stdout(), &BAR[0..end])
 }
 
-fn end_row() -> bool {
-    io::write_all(STDOUT_FILENO, b"\n")
+fn end_row(rt: &HostRuntime) -> bool {
+    write_all(&rt.stdout(), b"\n")
 }
 
 // Internal: a line for each class. Answers whether all are written.
-fn write_classes(counts: &[u64; 16], width: usize) -> bool
+fn write_classes(rt: &HostRuntime, counts: &[u64; 16], width: usize) -> bool
     requires { width ≤ 20 }
 {
     let largest = largest_class(counts);
     for k in 0..15 {
         let count = counts[k];
-        if !(write_row(k, count, width) && write_bar(count, largest) && end_row()) {
+        if !(write_row(rt, k, count, width) && write_bar(rt, count, largest) && end_row(rt)) {
             return false;
         }
     }
@@ -84,13 +84,13 @@ fn write_classes(counts: &[u64; 16], width: usize) -> bool
 }
 
 // Answers whether all is written.
-pub fn write_table(counts: &[u64; 16]) -> bool {
+pub fn write_table(rt: &HostRuntime, counts: &[u64; 16]) -> bool {
     let frames = frame_records(counts);
     let most = larger(larger(largest_class(counts), frames), counts[15]);
     let width = digits(most);
-    write_classes(counts, width)
-        && write_row(FRAME_RECORDS, frames, width)
-        && end_row()
-        && write_row(POWER_ON_RECORDS, counts[15], width)
-        && end_row()
+    write_classes(rt, counts, width)
+        && write_row(rt, FRAME_RECORDS, frames, width)
+        && end_row(rt)
+        && write_row(rt, POWER_ON_RECORDS, counts[15], width)
+        && end_row(rt)
 }

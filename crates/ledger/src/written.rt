@@ -1,30 +1,30 @@
 // Numbers on standard output.
 ghost use Rattle.std.specs.Prelude.{◌≤◌};
 
-use libc::STDOUT_FILENO;
+use streams::{write_all, write_decimal};
 
 const SPACES: [u8; 20] = *b"                    ";
 
 // How many digits a number has.
-#[tactic(auto, using(crate::proofs::Digits::few_digits))]
 pub fn digits(number: u64) -> usize
     ensures { result ≤ 20 }
 {
-    let mut text = [0u8; 20];
-    io::decimal(number, &mut text)
+    match number.checked_ilog10() {
+        Some(power) => power as usize + 1,
+        None => 1,
+    }
 }
 
 // Internal: a number, with spaces before it where it has fewer digits.
-pub fn write_aligned(number: u64, width: usize) -> bool
+pub fn write_aligned(rt: &HostRuntime, number: u64, width: usize) -> bool
     requires { width ≤ 20 }
 {
     let used = digits(number);
     if used < width {
         let more = width - used;
-        return io::write_all(STDOUT_FILENO, &SPACES[0..more])
-            && io::print_decimal(STDOUT_FILENO, number);
+        return write_all(&rt.stdout(), &SPACES[0..more]) && write_decimal(&rt.stdout(), number);
     }
-    io::print_decimal(STDOUT_FILENO, number)
+    write_decimal(&rt.stdout(), number)
 }
 
 fn low_byte(number: u64) -> u8 {
@@ -32,7 +32,7 @@ fn low_byte(number: u64) -> u8 {
 }
 
 // Eight bytes, high first.
-fn write_eight(number: u64) -> bool {
+fn write_eight(rt: &HostRuntime, number: u64) -> bool {
     let bytes = [
         low_byte(number >> 56),
         low_byte(number >> 48),
@@ -43,13 +43,13 @@ fn write_eight(number: u64) -> bool {
         low_byte(number >> 8),
         low_byte(number),
     ];
-    io::write_all(STDOUT_FILENO, &bytes)
+    write_all(&rt.stdout(), &bytes)
 }
 
 // Each count, as eight bytes. Answers whether all are written.
-pub fn write_bytes(counts: &[u64; 16]) -> bool {
+pub fn write_bytes(rt: &HostRuntime, counts: &[u64; 16]) -> bool {
     for k in 0..16 {
-        if !write_eight(counts[k]) {
+        if !write_eight(rt, counts[k]) {
             return false;
         }
     }

@@ -5,8 +5,8 @@
 ghost use Rattle.std.specs.Prelude.{◌≡◌, true};
 ghost use Rattle.records.specs.Order.{ordered};
 
-use libc::{STDERR_FILENO, STDIN_FILENO, STDOUT_FILENO};
 use records::Found;
+use streams::{read_full, write_all, write_decimal};
 
 // How many were found, and the checksum: three times the one before, and the offset found.
 #[derive(Clone, Copy)]
@@ -66,33 +66,37 @@ fn seek_often(map: &[u8]) -> Tally
     tally
 }
 
-fn say(sentence: &[u8]) {
-    io::write_all(STDERR_FILENO, sentence);
+fn say(rt: &HostRuntime, sentence: &[u8]) {
+    write_all(&rt.stderr(), sentence);
 }
 
-fn write_line(name: &[u8], number: u64) -> bool {
-    io::write_all(STDOUT_FILENO, name)
-        && io::write_all(STDOUT_FILENO, b" ")
-        && io::print_decimal(STDOUT_FILENO, number)
-        && io::write_all(STDOUT_FILENO, b"\n")
+fn write_line(rt: &HostRuntime, name: &[u8], number: u64) -> bool {
+    let output = rt.stdout();
+    write_all(&output, name)
+        && write_all(&output, b" ")
+        && write_decimal(&output, number)
+        && write_all(&output, b"\n")
 }
 
 // A program has no status of its own to end with: what it could not do it says on standard error.
 #[tactic(auto, using(records::proofs::Ordered::zero_ordered))]
-fn seek(map: &[u8]) {
+fn seek(rt: &HostRuntime, map: &[u8]) {
     if records::order_number(map) != 0 {
-        say(b"seek: the map breaks rule 7, 8 or 9\n");
+        say(rt, b"seek: the map breaks rule 7, 8 or 9\n");
         return;
     }
     let tally = seek_often(map);
-    if !(write_line(b"found", tally.found) && write_line(b"checksum", tally.checksum)) {
-        say(b"seek: standard output cannot be written: the rest is lost\n");
+    if !(write_line(rt, b"found", tally.found) && write_line(rt, b"checksum", tally.checksum)) {
+        say(
+            rt,
+            b"seek: standard output cannot be written: the rest is lost\n",
+        );
     }
 }
 
 // One byte more than the longest map, so that a longer one is seen to be longer.
-fn main() {
+fn main(rt: HostRuntime) {
     let mut map = [0u8; 513];
-    let length = io::read_full(STDIN_FILENO, &mut map);
-    seek(&map[..length]);
+    let length = read_full(&mut rt.stdin(), &mut map);
+    seek(&rt, &map[..length]);
 }

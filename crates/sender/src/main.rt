@@ -5,41 +5,41 @@
 #![tactic(auto)]
 
 mod frame; // a frame, as a line or as a record
-mod printed; // a line, with its end, to a descriptor
+mod printed; // a line, with its end, to standard output or standard error
 
 ghost use Rattle.std.specs.Prelude.{◌≤◌, length};
 
 use frame::print_frame;
-use libc::{STDERR_FILENO, STDIN_FILENO};
 use printed::print;
+use streams::{read_full, write_all};
 use text::{Line, say_refusal};
 
 // A program has no status of its own to end with: what it could not do it says on standard error.
-fn refuse(number: u8) {
-    print(STDERR_FILENO, say_refusal(Line::new(), number));
+fn refuse(rt: &HostRuntime, number: u8) {
+    print(&rt.stderr(), say_refusal(Line::new(), number));
 }
 
-fn say_missing() {
-    io::write_all(
-        STDERR_FILENO,
+fn say_missing(rt: &HostRuntime) {
+    write_all(
+        &rt.stderr(),
         b"sender: map and bytes are not whole on standard input\n",
     );
 }
 
-fn say_lost() {
-    io::write_all(
-        STDERR_FILENO,
+fn say_lost(rt: &HostRuntime) {
+    write_all(
+        &rt.stderr(),
         b"sender: standard output cannot be written: the rest is lost\n",
     );
 }
 
 // Internal: the first frames, 1 ms apart, from clock 0 on. Answers whether all are written.
-fn print_frames(records: bool, frames: [u32; 13], count: u8) -> bool
+fn print_frames(rt: &HostRuntime, records: bool, frames: [u32; 13], count: u8) -> bool
     requires { count ≤ 13 }
 {
     let mut i = 0;
     while i < count {
-        if !print_frame(records, i, frames[i as usize]) {
+        if !print_frame(rt, records, i, frames[i as usize]) {
             return false;
         }
         i += 1;
@@ -48,15 +48,23 @@ fn print_frames(records: bool, frames: [u32; 13], count: u8) -> bool
 }
 
 #[tactic(auto, using(session::proofs::Shown::session_places))]
-fn send(records: bool, map: &[u8], address: u32, bank: u32, location: u32, bytes: &[u8]) {
+fn send(
+    rt: &HostRuntime,
+    records: bool,
+    map: &[u8],
+    address: u32,
+    bank: u32,
+    location: u32,
+    bytes: &[u8],
+) {
     let session = session::session(map, address, bank, location, bytes);
     if session.number != 0 {
-        refuse(session.number);
+        refuse(rt, session.number);
         return;
     }
     let frames = session.frames;
-    if !print_frames(records, frames, session.count) {
-        say_lost();
+    if !print_frames(rt, records, frames, session.count) {
+        say_lost(rt);
     }
 }
 
@@ -73,15 +81,16 @@ fn length_of(high: u8, low: u8, room: usize) -> usize
 }
 
 // Internal: fills the first bytes of a room. Answers whether all of them came.
-fn fill(room: &mut [u8], n: usize) -> bool
+fn fill(rt: &HostRuntime, room: &mut [u8], n: usize) -> bool
     requires { n ≤ length room.old }
 {
-    io::read_full(STDIN_FILENO, &mut room[0..n]) == n
+    read_full(&mut rt.stdin(), &mut room[0..n]) == n
 }
 
 // Internal: reads the map and the bytes, of these lengths, and sends. Answers whether all of them came.
 // Rooms of one byte more than the limits, so that a longer one is seen to be longer.
 fn send_parts(
+    rt: &HostRuntime,
     records: bool,
     address: u32,
     bank: u32,
@@ -93,8 +102,9 @@ fn send_parts(
 {
     let mut map = [0u8; 513];
     let mut bytes = [0u8; 9];
-    if fill(&mut map, mapped) && fill(&mut bytes, given) {
+    if fill(rt, &mut map, mapped) && fill(rt, &mut bytes, given) {
         send(
+            rt,
             records,
             &map[0..mapped],
             address,
@@ -107,15 +117,15 @@ fn send_parts(
     false
 }
 
-fn main() {
+fn main(rt: HostRuntime) {
     let mut asked = [0u8; 11];
-    let whole = fill(&mut asked, 11);
+    let whole = fill(&rt, &mut asked, 11);
     let address = two_bytes(asked[1], asked[2]);
     let bank = two_bytes(asked[3], asked[4]);
     let location = two_bytes(asked[5], asked[6]);
     let mapped = length_of(asked[7], asked[8], 513);
     let given = length_of(asked[9], asked[10], 9);
-    if !(whole && send_parts(asked[0] == 1, address, bank, location, mapped, given)) {
-        say_missing();
+    if !(whole && send_parts(&rt, asked[0] == 1, address, bank, location, mapped, given)) {
+        say_missing(&rt);
     }
 }

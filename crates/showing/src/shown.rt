@@ -52,7 +52,7 @@ fn show_step(
 ) -> usize
     ensures { result ≤ length page.old }
 {
-    let same = check::same(seen, &seen_of(store));
+    let same = *seen == seen_of(store)[..];
     let line = say_step(Line::new(), map, bytes, was, step, same);
     let end = put_line(page, 0, line);
     if same {

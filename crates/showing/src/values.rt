@@ -20,7 +20,7 @@ fn put_value(
     ensures { result ≤ length page.old }
 {
     let line = Line::new().column(column);
-    if !check::same(before, after) {
+    if before != after {
         return put_line(page, at, say_change(line, r, before, after));
     }
     if all & records::is_writable(r) {

@@ -1,15 +1,16 @@
 // A file of the working folder.
-ghost use Rattle.io.specs.Counts.{IsPrefixLen};
+ghost use Rattle.std.specs.Prelude.{◌≡◌, ◌≤◌, length, take};
+
+use std::fs;
+use streams::read_full;
 
 // A missing file counts as empty.
-pub fn read_file(path: &[u8], buffer: &mut [u8]) -> usize
-    ensures { IsPrefixLen result buffer.new }
+pub fn read_file(rt: &HostRuntime, path: &str, buffer: &mut [u8]) -> usize
+    ensures within { result ≤ length buffer.new }
+    ensures part { result ≡ length (take result buffer.new) }
 {
-    let file = os::open_read(path);
-    if file < 0 {
-        return 0;
+    match fs::open(rt, path) {
+        Ok(mut file) => read_full(&mut file, buffer),
+        Err(_) => 0,
     }
-    let length = io::read_full(file, buffer);
-    libc::close(file);
-    length
 }

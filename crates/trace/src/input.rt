@@ -1,10 +1,10 @@
 // Records on standard input, as they come, and what is written for them.
-ghost use Rattle.std.specs.Prelude.{◌≡◌, false, ◌*◌, ◌≤◌, length};
-ghost use Rattle.io.specs.Counts.{IsPrefixLen};
+ghost use Rattle.std.specs.Prelude.{◌≡◌, false, ◌*◌, ◌≤◌, length, take};
 ghost use Rattle.tracing.specs.Flow.{Flows};
 
-use libc::{STDERR_FILENO, STDIN_FILENO, STDOUT_FILENO};
 use rooms::State;
+use std::io::Read;
+use streams::write_all;
 use tracing::Flow;
 
 // Between two reads: where the trace stands, and whether all that was due is written.
@@ -15,47 +15,52 @@ struct Turned {
 }
 
 // A program has no status of its own to end with: what it could not do it says on standard error.
-fn say(sentence: &[u8]) {
-    io::write_all(STDERR_FILENO, sentence);
+fn say(rt: &HostRuntime, sentence: &[u8]) {
+    write_all(&rt.stderr(), sentence);
 }
 
 // Answers whether all of it is written.
-fn put(bytes: &[u8]) -> bool {
-    let written = io::write_all(STDOUT_FILENO, bytes);
+fn put(rt: &HostRuntime, bytes: &[u8]) -> bool {
+    let written = write_all(&rt.stdout(), bytes);
     if !written {
-        say(b"trace: standard output cannot be written: the rest is lost\n");
+        say(
+            rt,
+            b"trace: standard output cannot be written: the rest is lost\n",
+        );
     }
     written
 }
 
-fn note_read(got: isize) {
-    if got < 0 {
-        say(b"trace: standard input cannot be read\n");
+fn note_read(rt: &HostRuntime, failed: bool) {
+    if failed {
+        say(rt, b"trace: standard input cannot be read\n");
     }
 }
 
 // Internal: reads once, behind the bytes that are kept, and answers where the input ends then. A read that fails ends it.
-#[tactic(auto, using(crate::proofs::Ends::behind, io::proofs::Counting::prefix_len_of_le))]
-fn read_more(input: &mut [u8], kept: usize) -> usize
+#[tactic(auto, using(crate::proofs::Ends::behind))]
+fn read_more(rt: &HostRuntime, input: &mut [u8], kept: usize) -> usize
     requires { kept ≤ length input.old }
-    ensures { IsPrefixLen result input.new }
+    ensures within { result ≤ length input.new }
+    ensures part { result ≡ length (take result input.new) }
 {
-    let got = libc::read(STDIN_FILENO, &mut input[kept..]);
-    note_read(got);
-    kept + io::count(got, &input[kept..])
+    let got = rt.stdin().read(&mut input[kept..]);
+    note_read(rt, got.is_err());
+    kept + got.unwrap_or(0)
 }
 
 // Internal: each record's four bytes. Answers whether all are written.
-fn write_answers(output: &[u8], count: usize) -> bool
+fn write_answers(rt: &HostRuntime, output: &[u8], count: usize) -> bool
     requires { 4 * count ≤ length output.now }
 {
     let end = 4 * count;
-    put(&output[..end])
+    put(rt, &output[..end])
 }
 
 // Internal: reads once, and writes what the records answer that are whole then. A record cut by the read waits.
 #[tactic(auto, using(tracing::proofs::Flowing::flows_again))]
 fn trace_some(
+    rt: &HostRuntime,
     map: &[u8],
     store: &mut [u8],
     image: &[u8],
@@ -66,9 +71,9 @@ fn trace_some(
     requires { (flow.ended ≡ false) × (flow.kept ≤ length input.old) × (length input.old ≤ length output.old) }
     ensures { Flows result.flow }
 {
-    let filled = read_more(input, flow.kept);
+    let filled = read_more(rt, input, flow.kept);
     let next = tracing::go_on(map, store, image, flow, input, filled, output);
-    let written = write_answers(output, next.count);
+    let written = write_answers(rt, output, next.count);
     Turned {
         flow: next,
         written: written,
@@ -76,9 +81,9 @@ fn trace_some(
 }
 
 // The 13 of an unfinished record at the end. Answers whether all is written.
-fn write_end(unfinished: bool, written: bool) -> bool {
+fn write_end(rt: &HostRuntime, unfinished: bool, written: bool) -> bool {
     if unfinished & written {
-        return put(&[13, 0, 0, 0]);
+        return put(rt, &[13, 0, 0, 0]);
     }
     written
 }
@@ -86,32 +91,32 @@ fn write_end(unfinished: bool, written: bool) -> bool {
 // Answers whether all is written. A proved loop has to end, and nothing
 // says that the input does: so it counts its turns down, from a number that no run uses up.
 #[tactic(auto, using(tracing::proofs::Flowing::flows_first))]
-fn trace_all(map: &[u8], store: &mut [u8], image: &[u8], state: State) -> bool {
-    let mut input = io::large_buffer();
-    let mut output = io::large_buffer();
+fn trace_all(rt: &HostRuntime, map: &[u8], store: &mut [u8], image: &[u8], state: State) -> bool {
+    let mut input = [0u8; 65536];
+    let mut output = [0u8; 65536];
     let mut turned = Turned {
         flow: tracing::begin(state),
         written: true,
     };
     let mut turns = u64::MAX;
     while turns > 0 && turned.flow.more && turned.written {
-        turned = trace_some(map, store, image, turned.flow, &mut input, &mut output);
+        turned = trace_some(rt, map, store, image, turned.flow, &mut input, &mut output);
         turns -= 1;
     }
-    write_end(turned.flow.unfinished, turned.written)
+    write_end(rt, turned.flow.unfinished, turned.written)
 }
 
 // A refused start writes its 4 bytes only. Last the store is written.
-pub fn trace(map: &[u8], store: &mut [u8], image: &[u8], adr: &[u8]) {
+pub fn trace(rt: &HostRuntime, map: &[u8], store: &mut [u8], image: &[u8], adr: &[u8]) {
     let number = tracing::number_of_files(map, store, image, adr);
     if number != 0 {
-        put(&[number, 0, 0, 0]);
+        put(rt, &[number, 0, 0, 0]);
         return;
     }
     let who = tracing::who_of(adr);
     let started = unit::start(map, store, image, who);
     let state = started.state;
-    if trace_all(map, store, image, state) {
-        put(store);
+    if trace_all(rt, map, store, image, state) {
+        put(rt, store);
     }
 }
