@@ -46,6 +46,15 @@ crates_to() {
     done
 }
 
+# judged FOLDER: `rt check` there; once more, from nothing, where it came to no verdict, as it does where another command changed a
+# library meanwhile
+judged() (
+    cd "$1" && rt check
+    ended=$?
+    [ "$ended" -ne 2 ] || { rm -rf ../*/out && rt check && ended=0 || ended=$?; }
+    return "$ended"
+)
+
 # copy NAME: the crates, copied to a folder of this name in the test's room, which is then the working folder; what is proved
 # already, and did not change, `rt` does not prove again there. `root` is the repository's folder
 copy() { mkdir "$room/$1" && cd "$root" && cp crates.txt "$room/$1" && crates_to "$room/$1" && cd "$room/$1" || exit 1; }
