@@ -1,8 +1,7 @@
 -- The rules 10 and 11 of map, store and reset image, each over everything, and the number of all three. Paper 01, "Map,
 -- store, reset image" and "Refusal numbers".
 -- Assumes nothing.
-use Rattle.std.specs.Prelude.{ℕ, ◌+◌, Bool, true, not, ◌&&◌, ◌||◌, List, [], ◌∷◌, ◌++◌, leb, eqb, length, get_or}
-use Rattle.laws.specs.Choice.{if◌then◌else◌}
+use Rattle.std.specs.Prelude.{ℕ, ◌+◌, Bool, true, not, ◌&&◌, ◌||◌, List, [], ◌∷◌, ◌++◌, leb, eqb, length, get_or, if◌then◌else◌}
 use Rattle.laws.specs.Lists.{every, some}
 use Rattle.laws.specs.Numbers.{Test, test, first_failing}
 use Rattle.records.specs.Map.{records_of, writable, locations_end, places_end}

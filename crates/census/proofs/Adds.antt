@@ -2,7 +2,7 @@
 -- Assumes nothing.
 use Rattle.std.proofs.Common.{◌≡◌, ℕ, suc, ◌+◌, ◌<◌, eqb, List, [], ◌∷◌, length, get_or, sym, refl, ◌∙◌, arith, length-set, get_or-set_other, get_or-set_same}
 use lib.ListN.{get_or-replicate}
-use Rattle.laws.specs.Choice.{if◌then◌else◌}
+use Rattle.std.specs.Prelude.{if◌then◌else◌}
 use Rattle.laws.specs.Counts.{count}
 use Rattle.laws.specs.Lists.{some}
 use Rattle.laws.proofs.Tests.{if_eq}

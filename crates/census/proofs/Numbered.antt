@@ -1,7 +1,7 @@
 -- The number of a census: 13 exactly if a record is unfinished or of unknown kind.
 -- Assumes nothing.
 use Rattle.std.proofs.Common.{◌≡◌, ℕ, ◌+◌, ◌/◌, ◌%◌, ◌<◌, ◌≤◌, Bool, true, ◌||◌, ltb, ◌⊎◌, List, length, sym, refl, ap, ◌∙◌, inl, inr, ⊎_elim, zero-add, arith, ltb-true, le-ltb, lt-ltb}
-use Rattle.laws.specs.Choice.{if◌then◌else◌}
+use Rattle.std.specs.Prelude.{if◌then◌else◌}
 use Rattle.laws.specs.Lists.{some}
 use Rattle.laws.proofs.Members.{some_of, items_member}
 use Rattle.laws.proofs.Sides.{either, or_left, or_right, chosen}

@@ -2,7 +2,7 @@
 -- Assumes nothing.
 use Rattle.std.proofs.Common.{◌≡◌, ℕ, ◌+◌, ◌*◌, ◌/◌, ◌%◌, ◌<◌, Bool, true, false, eqb, sym, refl, ap, ◌∙◌, true≢false, arith, lt-ltb, ne_eqb}
 use mathlib.Core.Bool.{false≢true}
-use Rattle.laws.specs.Choice.{if◌then◌else◌}
+use Rattle.std.specs.Prelude.{if◌then◌else◌}
 use Rattle.laws.specs.Bits.{bits, bit}
 use Rattle.laws.proofs.Bits.{bits_is}
 use Rattle.frames.specs.Read.{address_of, target_of, aimed, addressed, command_of, scheme_of, schemed, field_of}

@@ -2,7 +2,7 @@
 -- Assumes nothing.
 use Rattle.std.proofs.Common.{◌≡◌, ℕ, zero, suc, ◌+◌, ◌-◌, ◌*◌, ◌/◌, ◌<◌, ◌≤◌, Bool, true, false, not, eqb, List, [], ◌∷◌, sym, refl, ap, ◌∙◌, add-zero, add-suc, suc-mul, suc-add, zero-add, zero-mul, arith, eq-eqb, ne_eqb}
 use lib.Arith.{digits_div}
-use Rattle.laws.specs.Choice.{if◌then◌else◌}
+use Rattle.std.specs.Prelude.{if◌then◌else◌}
 use Rattle.laws.specs.Lists.{items}
 use Rattle.laws.specs.Counts.{below, count}
 use Rattle.laws.proofs.Tests.{if_eq}

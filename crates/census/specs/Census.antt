@@ -1,7 +1,6 @@
 -- What a capture of trace records holds: its records, counted by class. Paper 02, Item 7; paper 01, "The trace program".
 -- Assumes nothing.
-use Rattle.std.specs.Prelude.{◌≡◌, ℕ, ◌+◌, ◌%◌, ◌^◌, ◌<◌, List, [], ◌∷◌, ◌++◌, length, replicate, ◌==◌, nat_lt, slice_index, slice_set}
-use Rattle.laws.specs.Choice.{if◌then◌else◌}
+use Rattle.std.specs.Prelude.{◌≡◌, ℕ, ◌+◌, ◌%◌, ◌^◌, ◌<◌, List, [], ◌∷◌, ◌++◌, length, replicate, ◌==◌, nat_lt, slice_index, slice_set, if◌then◌else◌}
 use Rattle.laws.specs.Lists.{items}
 use Rattle.entries.specs.Entry.{whole_entries}
 use Rattle.entries.specs.declared.entry.Entry.{Entry}

@@ -1,8 +1,7 @@
 -- The class of a frame, 0 to 14, in the order in which they are counted. Paper 02, Item 7: "how many commands by address kind,
 -- events by scheme, power cycles, reserved and malformed frames".
 -- Assumes nothing.
-use Rattle.std.specs.Prelude.{ℕ, ◌==◌}
-use Rattle.laws.specs.Choice.{if◌then◌else◌}
+use Rattle.std.specs.Prelude.{ℕ, ◌==◌, if◌then◌else◌}
 use Rattle.frames.specs.Read.{read_of}
 use Rattle.frames.specs.declared.message.Address.{Address}
 use Rattle.frames.specs.declared.message.Message.{Message}

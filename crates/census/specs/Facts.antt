@@ -1,7 +1,6 @@
 -- What is proved of the census of a capture. Paper 02, Item 7. The proofs stand in proofs/.
 -- Assumes nothing.
-use Rattle.std.specs.Prelude.{◌≡◌, ℕ, ◌+◌, ◌*◌, ◌/◌, ◌%◌, ◌<◌, ◌≤◌, Bool, true, false, ◌⊎◌, ◌↔◌, List, [], ◌∷◌, ◌++◌, length, drop, ◌==◌, slice_index}
-use Rattle.laws.specs.Choice.{if◌then◌else◌}
+use Rattle.std.specs.Prelude.{◌≡◌, ℕ, ◌+◌, ◌*◌, ◌/◌, ◌%◌, ◌<◌, ◌≤◌, Bool, true, false, ◌⊎◌, ◌↔◌, List, [], ◌∷◌, ◌++◌, length, drop, ◌==◌, slice_index, if◌then◌else◌}
 use Rattle.laws.specs.Lists.{items, every}
 use Rattle.laws.specs.Counts.{count}
 use Rattle.entries.specs.Entry.{is_broken}

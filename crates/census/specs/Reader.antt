@@ -1,9 +1,8 @@
 -- A capture and a place in it. Paper 02, Item 7: "The reader keeps the capture and its place together". Its statement is proved
 -- in proofs/ReadOn.antt.
 -- Assumes nothing.
-use Rattle.std.specs.Prelude.{◌≡◌, ℕ, zero, suc, ◌+◌, ◌-◌, ◌*◌, ◌<◌, ◌≤◌, Bool, ◌&&◌, List, length, drop, ◌==◌, nat_lt}
+use Rattle.std.specs.Prelude.{◌≡◌, ℕ, zero, suc, ◌+◌, ◌-◌, ◌*◌, ◌<◌, ◌≤◌, Bool, ◌&&◌, List, length, drop, ◌==◌, nat_lt, if◌then◌else◌}
 use Rattle.std.specs.Borrow.{Bor}
-use Rattle.laws.specs.Choice.{if◌then◌else◌}
 use Rattle.entries.specs.Entry.{entry_at}
 use Rattle.census.specs.Census.{counted, ended}
 use Rattle.census.specs.declared.counts.Census.{Census}

@@ -9,7 +9,7 @@ use native.Mathlib.Omega.{arith}
 use native.Mathlib.Nat.{zero-add}
 use mir.Val.{bool_byte}
 use lib.ListN.{length, replicate, length-append, length-replicate}
-use Rattle.laws.specs.Choice.{if◌then◌else◌}
+use Rattle.std.specs.Prelude.{if◌then◌else◌}
 use Rattle.laws.specs.Lists.{items}
 use Rattle.laws.specs.Counts.{below}
 use Rattle.laws.proofs.Items.{items_start, items_end, items_cons}

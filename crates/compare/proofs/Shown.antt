@@ -9,7 +9,7 @@ use mathlib.Core.List.{Memᴰ}
 use native.Mathlib.Omega.{arith}
 use lib.ListN.{length, get_or, replicate, take, drop, length-append, length-drop, length-replicate}
 use lib.Seq.{take_at, drop_at, drop-drop, get_or-append-add, get_or-drop}
-use Rattle.laws.specs.Choice.{if◌then◌else◌}
+use Rattle.std.specs.Prelude.{if◌then◌else◌}
 use Rattle.laws.specs.Lists.{items}
 use Rattle.laws.specs.Counts.{below}
 use Rattle.laws.specs.Parts.{part}

@@ -1,8 +1,7 @@
 -- Compare two images: one map, two stores, and a list of the values that differ. Paper 02, Item 1; the numbers 7 to 11 are those of
 -- paper 01.
 -- Assumes nothing.
-use Rattle.std.specs.Prelude.{ℕ, ◌+◌, ◌*◌, ◌^◌, ◌/◌, ◌≤◌, ◌≡◌, Bool, true, false, not, ◌&&◌, List, [], ◌∷◌, ◌++◌, leb, eqb, length, drop}
-use Rattle.laws.specs.Choice.{if◌then◌else◌}
+use Rattle.std.specs.Prelude.{ℕ, ◌+◌, ◌*◌, ◌^◌, ◌/◌, ◌≤◌, ◌≡◌, Bool, true, false, not, ◌&&◌, List, [], ◌∷◌, ◌++◌, leb, eqb, length, drop, if◌then◌else◌}
 use Rattle.laws.specs.Counts.{below}
 use Rattle.laws.specs.Numbers.{Test, test, first_failing}
 use Rattle.records.specs.Map.{record_at, places_end}

@@ -1,8 +1,7 @@
 -- Composing an event, and a power event: paper 01, "Frames", and refusal 6.
 -- Assumes nothing.
-use Rattle.std.specs.Prelude.{ℕ, ◌^◌, Bool, ◌&&◌, ◌||◌, ltb, eqb}
+use Rattle.std.specs.Prelude.{ℕ, ◌^◌, Bool, ◌&&◌, ◌||◌, ltb, eqb, if◌then◌else◌}
 use Rattle.std.specs.Int.Count.{count_trailing_zeros}
-use Rattle.laws.specs.Choice.{if◌then◌else◌}
 use Rattle.frames.specs.Values.{scheme_at}
 use Rattle.frames.specs.Write.{write_of}
 use Rattle.frames.specs.declared.message.Field.{Field}

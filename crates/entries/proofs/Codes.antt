@@ -3,7 +3,7 @@
 use mathlib.Core.Path.{◌≡◌, refl, sym, ap, ◌∙◌}
 use lib.Dec.{eqb}
 use lib.ListN.{get_or}
-use Rattle.laws.specs.Choice.{if◌then◌else◌}
+use Rattle.std.specs.Prelude.{if◌then◌else◌}
 use Rattle.entries.specs.Codes.{EntryCode, entry_code, OneEntry, BrokenIs13}
 use Rattle.entries.specs.declared.entry.Entry.{Entry}
 

@@ -1,7 +1,6 @@
 -- One record of a trace. Paper 01, "The trace program".
 -- Assumes nothing.
-use Rattle.std.specs.Prelude.{ℕ, ◌+◌, ◌*◌, ◌/◌, Bool, true, false, List, eqb, length, get_or}
-use Rattle.laws.specs.Choice.{if◌then◌else◌}
+use Rattle.std.specs.Prelude.{ℕ, ◌+◌, ◌*◌, ◌/◌, Bool, true, false, List, eqb, length, get_or, if◌then◌else◌}
 use Rattle.laws.specs.Lists.{items}
 use Rattle.entries.specs.declared.entry.Entry.{Entry}
 

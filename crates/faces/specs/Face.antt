@@ -1,7 +1,6 @@
 -- What the calls of the unit answer and leave, over a state of 96 bytes.
 -- Assumes nothing.
-use Rattle.std.specs.Prelude.{ℕ, ◌/◌, ◌≡◌, false, List, [], ◌∷◌, ◌++◌, length, drop}
-use Rattle.laws.specs.Choice.{if◌then◌else◌}
+use Rattle.std.specs.Prelude.{ℕ, ◌/◌, ◌≡◌, false, List, [], ◌∷◌, ◌++◌, length, drop, if◌then◌else◌}
 use Rattle.laws.specs.Numbers.{test, first_failing}
 use Rattle.laws.specs.Outcome.{Outcome}
 use Rattle.banks.specs.Rules.{check_tests}

@@ -1,8 +1,7 @@
 -- The find calls: which value holds a location, or why none does, and how many records the look-up examines. Paper 02, Items 4
 -- and 5; the numbers are those of paper 01.
 -- Assumes nothing.
-use Rattle.std.specs.Prelude.{ℕ, ◌+◌, ◌*◌, ◌^◌, ◌&&◌, List, [], ◌∷◌, ◌++◌, leb, eqb, length}
-use Rattle.laws.specs.Choice.{if◌then◌else◌}
+use Rattle.std.specs.Prelude.{ℕ, ◌+◌, ◌*◌, ◌^◌, ◌&&◌, List, [], ◌∷◌, ◌++◌, leb, eqb, length, if◌then◌else◌}
 use Rattle.laws.specs.Numbers.{Test, test, first_failing}
 use Rattle.records.specs.Map.{records_of}
 use Rattle.records.specs.Order.{order_tests, order_number}

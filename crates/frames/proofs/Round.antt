@@ -6,7 +6,7 @@ use Prim.Native.Nat.{ℕ, ◌+◌, ◌-◌, ◌*◌, ◌^◌, ◌%◌, ◌/◌, 
 use native.Mathlib.Omega.{arith}
 use lib.Dec.{ltb, lit≤, lit<}
 use borrow.Author.Tests.{lt-ltb, ltb-true, eqb-true}
-use Rattle.laws.specs.Choice.{if◌then◌else◌}
+use Rattle.std.specs.Prelude.{if◌then◌else◌}
 use Rattle.laws.specs.Bits.{bits, bit}
 use Rattle.laws.proofs.Tests.{if_by, if_lt, if_eq, both}
 use Rattle.laws.proofs.Bits.{above_all, above_none, cut, small, bits_is}

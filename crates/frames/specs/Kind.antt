@@ -1,7 +1,6 @@
 -- The kind of an instance byte: the table of paper 01, "Frames".
 -- Assumes nothing.
-use Rattle.std.specs.Prelude.{ℕ, Bool, ◌&&◌, leb, eqb}
-use Rattle.laws.specs.Choice.{if◌then◌else◌}
+use Rattle.std.specs.Prelude.{ℕ, Bool, ◌&&◌, leb, eqb, if◌then◌else◌}
 
 abbrev within : ℕ → ℕ → ℕ → Bool
 within first last b = leb first b && leb b last

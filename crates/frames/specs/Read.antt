@@ -1,7 +1,6 @@
 -- What a frame says: paper 01, "Frames", and refusals 1 to 5.
 -- Assumes nothing.
-use Rattle.std.specs.Prelude.{ℕ, ◌%◌, Bool, ltb, eqb}
-use Rattle.laws.specs.Choice.{if◌then◌else◌}
+use Rattle.std.specs.Prelude.{ℕ, ◌%◌, Bool, ltb, eqb, if◌then◌else◌}
 use Rattle.laws.specs.Bits.{bits, bit}
 use Rattle.frames.specs.Kind.{kind_of}
 use Rattle.frames.specs.Values.{target_at}

@@ -1,8 +1,7 @@
 -- The number and the value of a target, a scheme and a field, and the case of a number and a value; and the number of
 -- an answer.
 -- Assumes nothing.
-use Rattle.std.specs.Prelude.{ℕ, ◌*◌, ◌^◌, ◌<◌, eqb}
-use Rattle.laws.specs.Choice.{if◌then◌else◌}
+use Rattle.std.specs.Prelude.{ℕ, ◌*◌, ◌^◌, ◌<◌, eqb, if◌then◌else◌}
 use Rattle.frames.specs.declared.message.Field.{Field}
 use Rattle.frames.specs.declared.message.Reading.{Reading}
 use Rattle.frames.specs.declared.message.Scheme.{Scheme}

@@ -1,7 +1,6 @@
 -- The frame that a message is written as: paper 01, "Frames", and refusal 6.
 -- Assumes nothing.
-use Rattle.std.specs.Prelude.{ℕ, ◌+◌, ◌*◌, ◌^◌, Bool, true, ◌&&◌, ltb}
-use Rattle.laws.specs.Choice.{if◌then◌else◌}
+use Rattle.std.specs.Prelude.{ℕ, ◌+◌, ◌*◌, ◌^◌, Bool, true, ◌&&◌, ltb, if◌then◌else◌}
 use Rattle.frames.specs.Values.{target_number, field_present, field_value}
 use Rattle.frames.specs.declared.message.Address.{Address}
 use Rattle.frames.specs.declared.message.Field.{Field}

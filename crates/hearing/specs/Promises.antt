@@ -1,9 +1,8 @@
 -- What is proved about the definitions. The proofs stand in proofs/, under the same names.
 -- Assumes nothing.
-use Rattle.std.specs.Prelude.{◌≡◌, ℕ, ◌/◌, ◌%◌, ◌^◌, true, false, ◌⊎◌, ◌↔◌, List, [], ◌∷◌, ◌++◌, ◌≢◌}
+use Rattle.std.specs.Prelude.{◌≡◌, ℕ, ◌/◌, ◌%◌, ◌^◌, true, false, ◌⊎◌, ◌↔◌, List, [], ◌∷◌, ◌++◌, ◌≢◌, if◌then◌else◌}
 use mathlib.Core.List.{Memᴰ}
 use Rattle.laws.specs.Bits.{bits, bit}
-use Rattle.laws.specs.Choice.{if◌then◌else◌}
 use Rattle.frames.specs.Read.{read_of}
 use Rattle.frames.specs.declared.message.Address.{Address}
 use Rattle.frames.specs.declared.message.Message.{Message}

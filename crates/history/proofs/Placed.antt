@@ -11,7 +11,7 @@ use lib.Dec.{ltb, eqb}
 use lib.ListN.{length, drop, take, get_or, get_or-append}
 use lib.Seq.{get_or-append_seam, drop-cons, take-suc, take_all, length-take-le}
 use borrow.Author.Tests.{eq-eqb, ne_eqb, ltb-true, ltb-false}
-use Rattle.laws.specs.Choice.{if◌then◌else◌}
+use Rattle.std.specs.Prelude.{if◌then◌else◌}
 use Rattle.laws.proofs.Tests.{clash}
 use Rattle.records.specs.declared.record.Record.{Record}
 use Rattle.hearing.specs.declared.heard.Who.{Who}

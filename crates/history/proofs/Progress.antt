@@ -5,7 +5,7 @@ use mathlib.Core.Bool.{Bool, ◌&&◌, ◌||◌}
 use mathlib.Core.List.{List, [], ◌∷◌}
 use Prim.Native.Nat.{ℕ}
 use lib.Dec.{eqb}
-use Rattle.laws.specs.Choice.{if◌then◌else◌}
+use Rattle.std.specs.Prelude.{if◌then◌else◌}
 use Rattle.records.specs.declared.record.Record.{Record}
 use Rattle.banks.specs.Values.{value_of}
 use Rattle.memory.specs.Filled.{selects, fresh}

@@ -1,9 +1,8 @@
 -- Address, groups, DTRs and write-enable, worked out from start, map and list. Paper 01, "Commands obeyed" and
 -- "Grammar of a complete writing".
 -- Assumes nothing.
-use Rattle.std.specs.Prelude.{ℕ, ◌+◌, ◌-◌, Bool, false, ◌||◌, List, [], ◌∷◌, ltb, eqb}
+use Rattle.std.specs.Prelude.{ℕ, ◌+◌, ◌-◌, Bool, false, ◌||◌, List, [], ◌∷◌, ltb, eqb, if◌then◌else◌}
 use Rattle.std.specs.Int.Bits.{bit_or, bit_and}
-use Rattle.laws.specs.Choice.{if◌then◌else◌}
 use Rattle.records.specs.Map.{mapped}
 use Rattle.records.specs.declared.record.Record.{Record}
 use Rattle.hearing.specs.Meaning.{meaning_of}

@@ -1,8 +1,7 @@
 -- The lock byte of a bank, by this same grammar. Paper 01, "Grammar of a complete writing". That it is the grammar's
 -- value of the lock byte is stated in specs/Demand.antt.
 -- Assumes nothing.
-use Rattle.std.specs.Prelude.{◌≡◌, ◌&&◌, List, [], ◌∷◌, ℕ, eqb}
-use Rattle.laws.specs.Choice.{if◌then◌else◌}
+use Rattle.std.specs.Prelude.{◌≡◌, ◌&&◌, List, [], ◌∷◌, ℕ, eqb, if◌then◌else◌}
 use Rattle.records.specs.declared.record.Record.{Record}
 use Rattle.memory.specs.Filled.{selects}
 use Rattle.hearing.specs.declared.heard.Who.{Who}

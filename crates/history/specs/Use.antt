@@ -1,9 +1,8 @@
 -- Demand 3 joined to use: which lists are accepted, and what refused frames do. Paper 01, "Frames" and "Refusal
 -- numbers". Proved of ours in proofs/Use.antt.
 -- Assumes nothing.
-use Rattle.std.specs.Prelude.{◌≡◌, true, ℕ, ◌<◌, ◌≤◌, ltb}
+use Rattle.std.specs.Prelude.{◌≡◌, true, ℕ, ◌<◌, ◌≤◌, ltb, if◌then◌else◌}
 use mathlib.Core.List.{List, [], ◌∷◌, Memᴰ}
-use Rattle.laws.specs.Choice.{if◌then◌else◌}
 use Rattle.records.specs.Map.{records_of, writable}
 use Rattle.records.specs.declared.record.Record.{Record}
 use Rattle.hearing.specs.declared.heard.Heard.{Heard}

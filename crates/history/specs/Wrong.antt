@@ -1,7 +1,6 @@
 -- Three wrong machines, each ours with one change. Proved in proofs/Wrong.antt not to meet the demand.
 -- Assumes nothing.
-use Rattle.std.specs.Prelude.{◌≡◌, ℕ, Bool, true, false, not, ◌&&◌, ◌||◌, List, [], ◌∷◌, reverse, leb, eqb, take}
-use Rattle.laws.specs.Choice.{if◌then◌else◌}
+use Rattle.std.specs.Prelude.{◌≡◌, ℕ, Bool, true, false, not, ◌&&◌, ◌||◌, List, [], ◌∷◌, reverse, leb, eqb, take, if◌then◌else◌}
 use Rattle.laws.specs.Parts.{put}
 use Rattle.records.specs.Map.{records_of}
 use Rattle.records.specs.Lookup.{holder}

@@ -8,7 +8,7 @@ use Prim.Native.Nat.{ℕ, ◌<◌}
 use native.Mathlib.Omega.{arith}
 use lib.Dec.{eqb}
 use borrow.Author.Tests.{eqb-false}
-use Rattle.laws.specs.Choice.{if◌then◌else◌}
+use Rattle.std.specs.Prelude.{if◌then◌else◌}
 use Rattle.laws.specs.Lists.{every}
 use Rattle.laws.specs.Numbers.{Test, test, first_failing, Given, ExactlyIf, numbered, NoneExactlyIf}
 use Rattle.laws.proofs.Tests.{both, clash, denied}

@@ -1,7 +1,6 @@
 -- The numbers below a bound, and how many items of a list pass a test.
 -- Assumes nothing.
-use Rattle.std.specs.Prelude.{ℕ, suc, Bool, List, [], ◌∷◌}
-use Rattle.laws.specs.Choice.{if◌then◌else◌}
+use Rattle.std.specs.Prelude.{ℕ, suc, Bool, List, [], ◌∷◌, if◌then◌else◌}
 use Rattle.laws.specs.Lists.{items}
 
 abbrev pub below : ℕ → List ℕ

@@ -1,8 +1,7 @@
 -- The number of a refusal: a list of tests, each with its number; the first test that fails gives its number.
 -- The statements are proved in proofs/Numbers.antt.
 -- Assumes nothing.
-use Rattle.std.specs.Prelude.{◌≡◌, ◌⊎◌, Bool, true, false, not, List, [], ◌∷◌, ℕ, ◌<◌, eqb}
-use Rattle.laws.specs.Choice.{if◌then◌else◌}
+use Rattle.std.specs.Prelude.{◌≡◌, ◌⊎◌, Bool, true, false, not, List, [], ◌∷◌, ℕ, ◌<◌, eqb, if◌then◌else◌}
 use Rattle.laws.specs.Lists.{every}
 
 -- a test, and the number that is given where it fails

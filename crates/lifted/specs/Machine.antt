@@ -1,8 +1,7 @@
 -- The unit as C sees it: its state is 96 bytes, and its calls are the definitions that mf_start, mf_frame and
 -- mf_power_on promise. Paper 01, "How the promises are judged".
 -- Assumes nothing.
-use Rattle.std.specs.Prelude.{Bool, ◌&&◌, List, ℕ, ◌^◌, ltb, replicate}
-use Rattle.laws.specs.Choice.{if◌then◌else◌}
+use Rattle.std.specs.Prelude.{Bool, ◌&&◌, List, ℕ, ◌^◌, ltb, replicate, if◌then◌else◌}
 use Rattle.history.specs.Machine.{Left, Machine}
 use Rattle.faces.specs.Face.{Faced, start_face, frame_face, power_on_face}
 

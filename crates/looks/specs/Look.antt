@@ -1,8 +1,7 @@
 -- The look calls: the stored bytes of a value that begins at a given bank and location. Paper 01, "Map, store, reset
 -- image" and "Refusal numbers": 7 to 11, then 14; a call without an image takes the store for it.
 -- Assumes nothing.
-use Rattle.std.specs.Prelude.{ℕ, Bool, true, false, List, [], ◌∷◌, ◌++◌, eqb, length}
-use Rattle.laws.specs.Choice.{if◌then◌else◌}
+use Rattle.std.specs.Prelude.{ℕ, Bool, true, false, List, [], ◌∷◌, ◌++◌, eqb, length, if◌then◌else◌}
 use Rattle.laws.specs.Parts.{part}
 use Rattle.laws.specs.Numbers.{Test, test, first_failing}
 use Rattle.records.specs.Map.{records_of}

@@ -11,7 +11,7 @@ use borrow.Author.Count.{below_more}
 use borrow.Author.Tests.{leb-true}
 use lib.ListN.{length, get_or, set}
 use lib.Seq.{get_or-set_same, get_or-set_other}
-use Rattle.laws.specs.Choice.{if◌then◌else◌}
+use Rattle.std.specs.Prelude.{if◌then◌else◌}
 use Rattle.laws.proofs.Items.{items_cons}
 use Rattle.laws.proofs.Sides.{and_left, and_right}
 use Rattle.records.specs.Map.{record_at, records_of, places_end}

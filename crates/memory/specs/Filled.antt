@@ -1,8 +1,7 @@
 -- RESET MEMORY BANK and power-on, for the store: which values are put anew, and with what. Paper 01, "State and
 -- clock" and "Commands obeyed".
 -- Assumes nothing.
-use Rattle.std.specs.Prelude.{◌≡◌, ℕ, ◌-◌, ◌/◌, ◌<◌, Bool, false, ◌&&◌, List, [], ◌∷◌, leb, eqb, length, get_or}
-use Rattle.laws.specs.Choice.{if◌then◌else◌}
+use Rattle.std.specs.Prelude.{◌≡◌, ℕ, ◌-◌, ◌/◌, ◌<◌, Bool, false, ◌&&◌, List, [], ◌∷◌, leb, eqb, length, get_or, if◌then◌else◌}
 use Rattle.laws.specs.Lists.{items}
 use Rattle.records.specs.Map.{record_at, records_of, writable}
 use Rattle.records.specs.declared.record.Record.{Record}

@@ -1,8 +1,7 @@
 -- The rules of a state that concern its staged and latched bytes. Paper 01, "State and clock". "While enabled" is not
 -- said here: write-enable is another room.
 -- Assumes nothing.
-use Rattle.std.specs.Prelude.{ℕ, Bool, false, ◌&&◌, List, leb, ltb, eqb, length, drop}
-use Rattle.laws.specs.Choice.{if◌then◌else◌}
+use Rattle.std.specs.Prelude.{ℕ, Bool, false, ◌&&◌, List, leb, ltb, eqb, length, drop, if◌then◌else◌}
 use Rattle.laws.specs.Lists.{every}
 use Rattle.records.specs.Map.{writable}
 use Rattle.records.specs.Lookup.{beginner}

@@ -1,8 +1,7 @@
 -- An executed write: the byte that is taken, the bytes that are staged, the whole value in the store.
 -- Paper 01, "Commands obeyed".
 -- Assumes nothing.
-use Rattle.std.specs.Prelude.{ℕ, ◌+◌, ◌-◌, Bool, true, false, ◌&&◌, ◌||◌, List, leb, eqb, take, set, replicate}
-use Rattle.laws.specs.Choice.{if◌then◌else◌}
+use Rattle.std.specs.Prelude.{ℕ, ◌+◌, ◌-◌, Bool, true, false, ◌&&◌, ◌||◌, List, leb, eqb, take, set, replicate, if◌then◌else◌}
 use Rattle.laws.specs.Outcome.{Outcome, leaves}
 use Rattle.records.specs.Map.{writable}
 use Rattle.records.specs.Lookup.{holder}

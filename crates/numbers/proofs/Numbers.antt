@@ -7,7 +7,7 @@ use mathlib.Core.List.{List, [], ◌∷◌, ◌++◌}
 use native.Mathlib.Omega.{arith}
 use lib.Dec.{ltb}
 use lib.ListN.{length, drop}
-use Rattle.laws.specs.Choice.{if◌then◌else◌}
+use Rattle.std.specs.Prelude.{if◌then◌else◌}
 use Rattle.laws.specs.Numbers.{Test, test, first_failing, numbered}
 use Rattle.laws.proofs.Numbers.{exactly_if, none_exactly_if}
 use Rattle.laws.proofs.Joined.{joined_none, joined_some}

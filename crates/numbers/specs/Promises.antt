@@ -1,8 +1,7 @@
 -- What is proved of the numbers: settled, given exactly if, in order. Paper 01, "Refusal numbers" and "How the
 -- promises are judged". Proved in proofs/Numbers.antt.
 -- Assumes nothing.
-use Rattle.std.specs.Prelude.{ℕ, ◌<◌, ◌≡◌, true, List, ltb, length}
-use Rattle.laws.specs.Choice.{if◌then◌else◌}
+use Rattle.std.specs.Prelude.{ℕ, ◌<◌, ◌≡◌, true, List, ltb, length, if◌then◌else◌}
 use Rattle.laws.specs.Lists.{every}
 use Rattle.laws.specs.Numbers.{Test, Given}
 use Rattle.laws.specs.Settled.{Settles}

@@ -1,7 +1,6 @@
 -- Look-up by halving, and the positions that it visits. Paper 02, Items 3 and 5.
 -- Assumes nothing.
-use Rattle.std.specs.Prelude.{ℕ, zero, suc, ◌+◌, ◌-◌, ◌/◌, Bool, ◌&&◌, ◌||◌, List, [], ◌∷◌, map as each, ltb, eqb, length}
-use Rattle.laws.specs.Choice.{if◌then◌else◌}
+use Rattle.std.specs.Prelude.{ℕ, zero, suc, ◌+◌, ◌-◌, ◌/◌, Bool, ◌&&◌, ◌||◌, List, [], ◌∷◌, map as each, ltb, eqb, length, if◌then◌else◌}
 use Rattle.records.specs.Map.{record_at, mapped}
 use Rattle.records.specs.Lookup.{holds, holder}
 use Rattle.records.specs.declared.record.Record.{Record}

@@ -1,8 +1,7 @@
 -- Which record holds a location, or why none does; and which value begins there. Paper 01, "Map, store, reset image", and
 -- paper 02, Item 4.
 -- Assumes nothing.
-use Rattle.std.specs.Prelude.{ℕ, Bool, ◌&&◌, List, [], ◌∷◌, leb, ltb, eqb}
-use Rattle.laws.specs.Choice.{if◌then◌else◌}
+use Rattle.std.specs.Prelude.{ℕ, Bool, ◌&&◌, List, [], ◌∷◌, leb, ltb, eqb, if◌then◌else◌}
 use Rattle.records.specs.Map.{locations_end, mapped}
 use Rattle.records.specs.declared.record.Record.{Record}
 use Rattle.records.specs.declared.holder.Beginning.{Beginning}

@@ -1,7 +1,7 @@
 -- A powered-on state, and what SET SHORT ADDRESS takes.
 -- Assumes nothing.
 use mathlib.Core.Path.{ap}
-use Rattle.laws.specs.Choice.{if◌then◌else◌}
+use Rattle.std.specs.Prelude.{if◌then◌else◌}
 use Rattle.rooms.specs.Due.{short_due}
 use Rattle.rooms.specs.Promises.{PoweredOn, ShortTakesAddress}
 use Rattle.rooms.specs.declared.due.Due.TheVariants.{Nothing, Becomes}

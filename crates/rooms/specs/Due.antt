@@ -1,9 +1,8 @@
 -- What a frame makes happen now: nothing, it waits, it opens, .. It changes nothing by itself.
 -- Paper 01, "Commands obeyed".
 -- Assumes nothing.
-use Rattle.std.specs.Prelude.{ℕ, ◌+◌, ◌-◌, ◌*◌, ◌/◌, ◌%◌, ◌^◌, Bool, true, ◌&&◌, ◌||◌, List, ltb, eqb}
+use Rattle.std.specs.Prelude.{ℕ, ◌+◌, ◌-◌, ◌*◌, ◌/◌, ◌%◌, ◌^◌, Bool, true, ◌&&◌, ◌||◌, List, ltb, eqb, if◌then◌else◌}
 use Rattle.std.specs.Int.Bits.{bit_or, bit_and}
-use Rattle.laws.specs.Choice.{if◌then◌else◌}
 use Rattle.records.specs.Map.{mapped}
 use Rattle.records.specs.declared.record.Record.{Record}
 use Rattle.hearing.specs.Meaning.{meaning_of}

@@ -1,8 +1,7 @@
 -- What is proved of the rooms and of what is due. Paper 01, "State and clock" and "Commands obeyed".
 -- Proved in proofs/Promises.antt.
 -- Assumes nothing.
-use Rattle.std.specs.Prelude.{ℕ, ◌≡◌, false}
-use Rattle.laws.specs.Choice.{if◌then◌else◌}
+use Rattle.std.specs.Prelude.{ℕ, ◌≡◌, false, if◌then◌else◌}
 use Rattle.hearing.specs.declared.heard.Who.{Who}
 use Rattle.rooms.specs.State.{powered_on}
 use Rattle.rooms.specs.Rules.{address_holds}

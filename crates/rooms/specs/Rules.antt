@@ -1,7 +1,6 @@
 -- 12: the rules of a state. Paper 01, "State and clock".
 -- Assumes nothing.
-use Rattle.std.specs.Prelude.{ℕ, Bool, true, false, not, ◌&&◌, ◌||◌, List, leb, eqb}
-use Rattle.laws.specs.Choice.{if◌then◌else◌}
+use Rattle.std.specs.Prelude.{ℕ, Bool, true, false, not, ◌&&◌, ◌||◌, List, leb, eqb, if◌then◌else◌}
 use Rattle.records.specs.declared.record.Record.{Record}
 use Rattle.memory.specs.Rules.{staged_holds, latch_holds}
 use Rattle.hearing.specs.Meaning.{meaning_of}

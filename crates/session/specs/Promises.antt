@@ -1,8 +1,7 @@
 -- What is proved of a session as a call. The proofs stand in proofs/.
 -- Assumes nothing.
-use Rattle.std.specs.Prelude.{◌≡◌, ◌⊎◌, ◌↔◌, true, List, map as each, ℕ, ◌-◌, ◌≤◌, ◌<◌, eqb, length, take, drop, replicate}
+use Rattle.std.specs.Prelude.{◌≡◌, ◌⊎◌, ◌↔◌, true, List, map as each, ℕ, ◌-◌, ◌≤◌, ◌<◌, eqb, length, take, drop, replicate, if◌then◌else◌}
 use Rattle.laws.specs.Bits.{bits}
-use Rattle.laws.specs.Choice.{if◌then◌else◌}
 use Rattle.laws.specs.Numbers.{Given}
 use Rattle.laws.specs.Settled.{Settles}
 use Rattle.frames.specs.Read.{read_of}

@@ -1,8 +1,7 @@
 -- Running a session: its frames 1 ms apart, no others on the wire, and a unit holding that address; what the unit's own steps
 -- leave and answer. Paper 02, Item 2.
 -- Assumes nothing.
-use Rattle.std.specs.Prelude.{ℕ, ◌+◌, ◌%◌, ◌^◌, ◌≤◌, ◌<◌, ◌≡◌, ◌⊎◌, List, [], ◌∷◌, ◌++◌, eqb, length, get_or}
-use Rattle.laws.specs.Choice.{if◌then◌else◌}
+use Rattle.std.specs.Prelude.{ℕ, ◌+◌, ◌%◌, ◌^◌, ◌≤◌, ◌<◌, ◌≡◌, ◌⊎◌, List, [], ◌∷◌, ◌++◌, eqb, length, get_or, if◌then◌else◌}
 use Rattle.laws.specs.Lists.{items}
 use Rattle.records.specs.Map.{records_of, locations_end, places_end}
 use Rattle.records.specs.Lookup.{holder, beginner}

@@ -1,7 +1,6 @@
 -- A session: the frames that write a value. Paper 02, Item 2; the numbers 7 to 9, 14 and 6 are those of paper 01.
 -- Assumes nothing.
-use Rattle.std.specs.Prelude.{ℕ, ◌+◌, ◌-◌, ◌*◌, ◌^◌, Bool, true, false, ◌&&◌, List, [], ◌∷◌, ◌++◌, map as each, leb, eqb, length, set, replicate}
-use Rattle.laws.specs.Choice.{if◌then◌else◌}
+use Rattle.std.specs.Prelude.{ℕ, ◌+◌, ◌-◌, ◌*◌, ◌^◌, Bool, true, false, ◌&&◌, List, [], ◌∷◌, ◌++◌, map as each, leb, eqb, length, set, replicate, if◌then◌else◌}
 use Rattle.laws.specs.Numbers.{Test, test, first_failing}
 use Rattle.frames.specs.Write.{write_of}
 use Rattle.frames.specs.declared.message.Address.{Address}

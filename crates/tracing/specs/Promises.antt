@@ -1,8 +1,7 @@
 -- What is proved of a trace: one run after the other, slices, how much is written, 13 and the tail, one check, the
 -- numbers of the files. Paper 01, "The trace program". Proved in proofs/: Continued, Cutting, Checks, Starts, Settled.
 -- Assumes nothing.
-use Rattle.std.specs.Prelude.{ℕ, suc, ◌*◌, ◌<◌, ◌≡◌, true, false, ◌&&◌, List, [], ◌∷◌, ◌++◌, eqb, length, take}
-use Rattle.laws.specs.Choice.{if◌then◌else◌}
+use Rattle.std.specs.Prelude.{ℕ, suc, ◌*◌, ◌<◌, ◌≡◌, true, false, ◌&&◌, List, [], ◌∷◌, ◌++◌, eqb, length, take, if◌then◌else◌}
 use Rattle.laws.specs.Lists.{every, some}
 use Rattle.laws.specs.Settled.{Settles}
 use Rattle.banks.specs.Rules.{check_number}

@@ -1,8 +1,7 @@
 -- However the input comes, read after read: what is written is its trace. Paper 01, "The trace program". Proved in
 -- proofs/InReads.antt.
 -- Assumes nothing.
-use Rattle.std.specs.Prelude.{ℕ, ◌-◌, ◌*◌, ◌%◌, ◌≤◌, ◌≡◌, true, List, [], ◌∷◌, ◌++◌, length, take, drop}
-use Rattle.laws.specs.Choice.{if◌then◌else◌}
+use Rattle.std.specs.Prelude.{ℕ, ◌-◌, ◌*◌, ◌%◌, ◌≤◌, ◌≡◌, true, List, [], ◌∷◌, ◌++◌, length, take, drop, if◌then◌else◌}
 use Rattle.rooms.specs.declared.state.State.{State}
 use Rattle.unit.specs.Step.{start_of}
 use Rattle.entries.specs.Entry.{whole_entries}

@@ -1,7 +1,6 @@
 -- What a run of records does, turn by turn, and what it promises.
 -- Assumes nothing.
-use Rattle.std.specs.Prelude.{ℕ, ◌+◌, ◌*◌, ◌/◌, ◌≤◌, ◌≡◌, false, List, [], ◌∷◌, ◌++◌, ltb, length, take, drop}
-use Rattle.laws.specs.Choice.{if◌then◌else◌}
+use Rattle.std.specs.Prelude.{ℕ, ◌+◌, ◌*◌, ◌/◌, ◌≤◌, ◌≡◌, false, List, [], ◌∷◌, ◌++◌, ltb, length, take, drop, if◌then◌else◌}
 use Rattle.laws.specs.Outcome.{Outcome, leaves}
 use Rattle.hearing.specs.Pairs.{heard_at}
 use Rattle.rooms.specs.Reply.{refusing}

@@ -1,7 +1,6 @@
 -- A run of trace records, and a whole trace. Paper 01, "The trace program".
 -- Assumes nothing.
-use Rattle.std.specs.Prelude.{ℕ, ◌%◌, Bool, ◌&&◌, List, [], ◌∷◌, ◌++◌, eqb, length, get_or}
-use Rattle.laws.specs.Choice.{if◌then◌else◌}
+use Rattle.std.specs.Prelude.{ℕ, ◌%◌, Bool, ◌&&◌, List, [], ◌∷◌, ◌++◌, eqb, length, get_or, if◌then◌else◌}
 use Rattle.laws.specs.Lists.{some}
 use Rattle.laws.specs.Numbers.{Test, test, first_failing}
 use Rattle.laws.specs.Outcome.{Outcome}

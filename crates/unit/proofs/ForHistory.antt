@@ -8,7 +8,7 @@ use Prim.Native.Nat.{ℕ, ◌+◌, ◌-◌}
 use lib.Bits.{bit_or, bit_and}
 use lib.Dec.{ltb, eqb}
 use lib.ListN.{length}
-use Rattle.laws.specs.Choice.{if◌then◌else◌}
+use Rattle.std.specs.Prelude.{if◌then◌else◌}
 use Rattle.laws.specs.Outcome.{Outcome}
 use Rattle.records.specs.Map.{records_of, mapped}
 use Rattle.records.specs.declared.record.Record.{Record}

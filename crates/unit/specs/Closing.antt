@@ -1,8 +1,7 @@
 -- What closes write-enable. Paper 02, Item 6: of every frame step; and worked, in one table with one statement. Proved in
 -- proofs/Closing.antt.
 -- Assumes nothing.
-use Rattle.std.specs.Prelude.{ℕ, ◌≡◌, ◌⊎◌, ◌↔◌, Bool, true, false, List, [], ◌∷◌, ◌++◌, map}
-use Rattle.laws.specs.Choice.{if◌then◌else◌}
+use Rattle.std.specs.Prelude.{ℕ, ◌≡◌, ◌⊎◌, ◌↔◌, Bool, true, false, List, [], ◌∷◌, ◌++◌, map, if◌then◌else◌}
 use Rattle.records.specs.declared.record.Record.{Record}
 use Rattle.hearing.specs.Promises.{CommandFor, OneOfEleven}
 use Rattle.hearing.specs.declared.heard.Heard.{Heard}

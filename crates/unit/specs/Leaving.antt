@@ -1,8 +1,7 @@
 -- What a frame leaves alone: a foreign one, one between two halves, and each command.
 -- Paper 01, "Commands obeyed". Proved in proofs/Foreign.antt and proofs/Leaving.antt.
 -- Assumes nothing.
-use Rattle.std.specs.Prelude.{ℕ, ◌+◌, ◌≡◌, Bool, true, false, List}
-use Rattle.laws.specs.Choice.{if◌then◌else◌}
+use Rattle.std.specs.Prelude.{ℕ, ◌+◌, ◌≡◌, Bool, true, false, List, if◌then◌else◌}
 use Rattle.laws.specs.Outcome.{Outcome, leaves}
 use Rattle.frames.specs.Read.{read_of}
 use Rattle.frames.specs.declared.message.Message.{Message}

@@ -1,7 +1,6 @@
 -- A list of inputs, each handed to the public calls, and what is written for each. Paper 01, "The trace program".
 -- Assumes nothing.
-use Rattle.std.specs.Prelude.{ℕ, List, [], ◌∷◌, ◌++◌}
-use Rattle.laws.specs.Choice.{if◌then◌else◌}
+use Rattle.std.specs.Prelude.{ℕ, List, [], ◌∷◌, ◌++◌, if◌then◌else◌}
 use Rattle.laws.specs.Outcome.{Outcome}
 use Rattle.hearing.specs.declared.heard.Who.{Who}
 use Rattle.hearing.specs.declared.heard.Heard.{Heard}

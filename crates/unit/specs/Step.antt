@@ -1,7 +1,6 @@
 -- A frame step, a power-on, a start: what each leaves and answers. Paper 01, "State and clock" and "Commands obeyed".
 -- Assumes nothing.
-use Rattle.std.specs.Prelude.{ℕ, ◌+◌, Bool, true, ◌&&◌, List, eqb, length}
-use Rattle.laws.specs.Choice.{if◌then◌else◌}
+use Rattle.std.specs.Prelude.{ℕ, ◌+◌, Bool, true, ◌&&◌, List, eqb, length, if◌then◌else◌}
 use Rattle.laws.specs.Outcome.{Outcome, leaves}
 use Rattle.records.specs.Map.{records_of}
 use Rattle.records.specs.declared.record.Record.{Record}

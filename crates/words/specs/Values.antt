@@ -1,8 +1,7 @@
 -- The number and the values that paper 01 gives to each case of the enums, and the case of a number and a value; those
 -- that reading and writing need too stand in frames.
 -- Assumes nothing.
-use Rattle.std.specs.Prelude.{ℕ, eqb}
-use Rattle.laws.specs.Choice.{if◌then◌else◌}
+use Rattle.std.specs.Prelude.{ℕ, eqb, if◌then◌else◌}
 use Rattle.frames.specs.declared.message.Address.{Address}
 use Rattle.frames.specs.declared.message.Field.{Field}
 use Rattle.frames.specs.declared.message.Scheme.{Scheme}

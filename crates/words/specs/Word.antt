@@ -1,7 +1,6 @@
 -- A reading as one number of eight bytes, and back.
 -- Assumes nothing.
-use Rattle.std.specs.Prelude.{ℕ, ◌+◌, ◌-◌, ◌*◌, ◌^◌, eqb}
-use Rattle.laws.specs.Choice.{if◌then◌else◌}
+use Rattle.std.specs.Prelude.{ℕ, ◌+◌, ◌-◌, ◌*◌, ◌^◌, eqb, if◌then◌else◌}
 use Rattle.laws.specs.Bits.{bits}
 use Rattle.frames.specs.Values.{target_number, target_at, scheme_at, field_present, field_value}
 use Rattle.frames.specs.Read.{aimed}
