@@ -9,7 +9,7 @@ BEGIN {
     floor("without a unit", "tools over bytes, map and store; no state", "compare entries")
     floor("unit", "who a frame is for, the state, and what a frame does", "memory hearing rooms numbers unit")
     floor("above the unit", "many frames in a row", "session history tracing")
-    floor("faces", "bytes, words and calls for others", "packing faces text places telling showing mirtofalko")
+    floor("faces", "bytes, words and calls for others", "packing faces text places telling showing streams mirtofalko")
     floor("claims", "demand 3 of the C calls, and what is promised, on one page", "lifted claims")
     floor("programs", "what is run", "")
     split("#e3e7ec #eaf2ea #eef3fa #f3f3ef #f4f0f8 #eef3fa #eaf2ea #f6f1e4 #f3f3ef", tint, " ")

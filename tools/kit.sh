@@ -88,23 +88,60 @@ crates_for() {
             for (i = 1; i <= n; i++) visit(below[i])
         }
         { sub(/#.*/, ""); at = index($0, ":") }
-        at { name = substr($0, 1, at - 1); gsub(/[ \t]/, "", name); needs[name] = substr($0, at + 1) }
+        at { split(substr($0, 1, at - 1), head, " "); needs[head[1]] = substr($0, at + 1) }
         END { n = split(names, wanted, " "); for (i = 1; i <= n; i++) visit(wanted[i]) }' crates.txt
 }
 
-# proving NAMES COMMAND..: runs a command that proves the crates NAMES and what they need, and says on standard error how
-# far it is, a line a crate; nothing where nothing is to be proved. What it printed is shown where it fails. Two at a time, as in a
-# pipe from one ./mirto to another, take turns: `rt` keeps notes in target/, and would read the other's.
-proving() {
-    crates=$(crates_for $1)
-    shift
-    all=0 missing=0
+# built NAME: the file that is made of this crate: a program, or else an archive
+built() { if [ -f "crates/$1/src/lib.rt" ]; then echo "crates/$1/out/lib$1.a"; else echo "crates/$1/out/$1"; fi; }
+
+# text_of NAME: a sum over all that it is proved and built from: the kit, and the text of the crate and of all that it needs
+text_of() {
+    kit=$(dirname "$(dirname "$(readlink -f "$(command -v rt)")")")
+    {
+        cat "$kit/KIT-ID" crates.txt
+        find $(crates_for "$1" | sed 's|.*|crates/&/src crates/&/specs crates/&/proofs|') -type f -exec cksum {} + | sort
+    } 2>/dev/null | cksum
+}
+
+# stands CRATE: something was made of it, perhaps of an older text
+stands() { [ -f "crates/$1/out/rlib/stamp" ] || [ -f "$(built "$1")" ]; }
+
+# is_fresh NAME: what stands there was built of this text once it was proved; note NAME TEXT: so it is
+is_fresh() { [ -f "$(built "$1")" ] && [ "$(cat "target/proved/$1" 2>/dev/null)" = "$(note_of "$1" "$(text_of "$1")")" ]; }
+note_of() { printf '%s\n%s\n' "$2" "$(cksum <"$(built "$1")")"; }
+note() { mkdir -p target/proved && note_of "$1" "$2" >"target/proved/$1"; }
+
+# prove NAME..: these programs, or archives, are proved with what they need, and built. It says on standard error how far it is, a
+# line a crate; nothing where nothing is to be proved. What `rt` printed is shown where it fails. Two at a time, as in a pipe from
+# one ./mirto to another, take turns: the second then finds what the first has built.
+prove() {
+    need_kit
+    stale=''
+    for name; do is_fresh "$name" || stale="$stale $name"; done
+    [ -n "$stale" ] || return 0
+    all=0 missing=0 crates=$(crates_for $stale)
     for crate in $crates; do
         all=$((all + 1))
-        [ -f "target/stamp/$crate" ] || missing=$((missing + 1))
+        stands "$crate" || missing=$((missing + 1))
     done
     [ "$missing" -eq 0 ] || say "proving what this needs: $missing of $all crates, which can take minutes"
-    { in_turn && "$@" 2>&1 </dev/null 9<&- && echo 'all is proved'; } 9<crates.txt | say_progress
+    { in_turn && build_each $stale 2>&1 9<&- && echo 'all is proved'; } 9<crates.txt | say_progress
+}
+
+build_each() { for name; do is_fresh "$name" || build "$name" || return; done; }
+
+# build NAME: proves and builds it. `rt run` also runs the program, on the input that its crate has; what comes of that is not
+# asked here, so that only a program that was not built counts as a failure.
+build() {
+    text=$(text_of "$1") file=$(built "$1") status=0
+    rm -f "$file"
+    case $file in
+        *.a) (cd "crates/$1" && exec rt lib </dev/null) || return ;;
+        *) (cd "crates/$1" && [ -f stdin ] && exec <stdin || exec </dev/null && exec rt run 2>&1 >/dev/null) || status=$? ;;
+    esac
+    [ -f "$file" ] || return "$status"
+    [ "$(text_of "$1")" != "$text" ] || note "$1" "$text"
 }
 
 # in_turn: locks the file of descriptor 9, once no other has it locked
@@ -115,58 +152,52 @@ in_turn() {
     flock 9
 }
 
-# say_progress: of what `rt` prints
+# say_progress: of what `rt` prints. It is silent about a library that another copy of the repository had proved: those that stand
+# now are counted too.
 say_progress() {
-    at=0 seen=' ' printed=''
+    at=$((all - missing)) seen=' ' name='' printed='' began=$(date +%s)
     while IFS= read -r line; do
         printed="$printed$line
 "
         case $line in
             'all is proved') return 0 ;;
-            'rt: '*' proved ('*) name=${line#rt: } && name=${name%% *} ;;
+            'crate '*': modules loaded='*) name=${line#crate } && name=${name%%:*} && continue ;;
+            'logic=proved'*) ;;
             *) continue ;;
         esac
         case $seen in *" $name "*) continue ;; esac
-        at=$((at + 1)) seen="$seen$name " took=${line##*\(}
-        case $took in *' s)') say "proving $at of $all: $name, ${took%)}" ;; esac
+        now=$(date +%s) seen="$seen$name " others=0
+        for crate in $crates; do [ "$crate" = "$name" ] || ! stands "$crate" || others=$((others + 1)); done
+        at=$((others > at ? others + 1 : at < all ? at + 1 : all))
+        say "proving $at of $all: $name, $((now - began)) s"
+        began=$now
     done
     printf %s "$printed" >&2
     return 1
 }
 
-# prove NAME..: the programs are proved and linked, and what they need is proved.
-prove() {
-    need_kit
-    proving "$*" rt check "$@"
-}
-
 # under COMMAND..: how the two below run a program. A script may say it anew, with a limit or a clock.
 under() { "$@"; }
 
-# run_program NAME [ROOT [ARG..]]: runs target/bin/NAME of that folder (this one where none is named) as `rt` does, in this
-# folder, and hands it the arguments. Programs are for x86-64; on Arm the kit's emulator runs them.
+# run_x86 PROGRAM..: runs a program for x86-64; elsewhere an emulator does.
+run_x86() {
+    if [ "$(uname -m)" != x86_64 ]; then
+        need qemu-x86_64 qemu-user || return
+        set -- qemu-x86_64 -L /usr/x86_64-linux-gnu "$@"
+    fi
+    under "$@"
+}
+
+# run_program NAME [ROOT [ARG..]]: runs the program of that crate, of the repository there (this one where none is named), in this
+# folder, and hands it the arguments.
 run_program() {
-    rt_file=$(readlink -f "$(command -v rt)")
-    built=${RATTLE_HOME:-$(dirname "$(dirname "$rt_file")")}/on/$(uname -m)/toolchain
-    emulator=$built/bin/qemu-x86_64
-    [ -x "$emulator" ] || emulator=''
-    program=${2:-$(pwd)}/target/bin/$1
-    [ -f "$program" ] || { say "mirto: target/bin/$1 is not built"; return 1; }
+    program=${2:-$(pwd)}/crates/$1/out/$1
+    [ -f "$program" ] || { say "mirto: crates/$1/out/$1 is not built"; return 1; }
     shift $(($# > 1 ? 2 : 1))
-    under ${emulator:+"$emulator"} "$built/lib/ld-linux-x86-64.so.2" --library-path "$built/lib" "$program" "$@"
+    run_x86 "$program" "$@"
 }
 
 # c_compiler: the compiler whose programs link our archive, which is for x86-64.
 c_compiler() {
     if [ "$(uname -m)" = x86_64 ]; then echo gcc; else echo x86_64-linux-gnu-gcc; fi
-}
-
-# run_x86 PROGRAM..: runs a program of that compiler; on Arm the kit's emulator runs it.
-run_x86() {
-    if [ "$(uname -m)" != x86_64 ]; then
-        rt_file=$(readlink -f "$(command -v rt)")
-        built=${RATTLE_HOME:-$(dirname "$(dirname "$rt_file")")}/on/$(uname -m)/toolchain
-        set -- "$built/bin/qemu-x86_64" -L /usr/x86_64-linux-gnu "$@"
-    fi
-    under "$@"
 }

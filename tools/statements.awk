@@ -14,9 +14,9 @@ code { sub(/\/\/.*/, "") }
 
 # An import: where each name comes from, by its name in this file. Code uses what it imports.
 /^ *(ghost +)?use / {
-    if (!match($0, /Rattle·[a-z]+/)) next
+    if (!match($0, /Rattle\.[a-z]+/)) next
     home = substr($0, RSTART, RLENGTH)
-    sub(/^Rattle·/, "", home)
+    sub(/^Rattle\./, "", home)
     list = $0
     if (!sub(/.*[{]/, "", list) || !sub(/[}].*/, "", list)) next
     n = split(list, names, ",")

@@ -14,7 +14,6 @@ pub mod Clocks
 pub mod Fifteen
 pub mod Summed
 pub mod Filled
-pub mod Locals
 pub mod Tallies
 pub mod Weights
 pub mod Samples

@@ -7,7 +7,7 @@ pub use Rattle.records.specs.Bench.{bench_map}
 
 -- a record of the map: bank, first location, width, kind, lockable, zero, store offset
 abbrev pub map_row : ℕ → ℕ → ℕ → ℕ → ℕ → ℕ → ℕ → ℕ → List ℕ
-map_row bank first width kind lockable zero high low = bank ∷ first ∷ width ∷ kind ∷ lockable ∷ zero ∷ high ∷ low ∷ []
+map_row bank first width kind lockable blank high low = bank ∷ first ∷ width ∷ kind ∷ lockable ∷ blank ∷ high ∷ low ∷ []
 
 -- the byte at 0x00 and the lock byte of a bank, at the first two places of the store
 abbrev pub head_row : ℕ → List ℕ
