@@ -25,8 +25,8 @@ programs() { prove "$@"; }
 # second_program: both builds of the second program stand in target/second and target/second-sanitized
 second_program() {
     need gcc gcc && need make make \
-        && make -s -C second all OUT="$(pwd)/target/second" \
-        && make -s -C second sanitize OUT="$(pwd)/target/second-sanitized"
+        && make -j 4 -s -C second all OUT="$(pwd)/target/second" \
+        && make -j 4 -s -C second sanitize OUT="$(pwd)/target/second-sanitized"
 }
 
 # c_tools: the compiler whose programs link our archive
