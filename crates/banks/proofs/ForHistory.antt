@@ -18,7 +18,7 @@ use Rattle.records.specs.Order.{ordered}
 use Rattle.records.specs.Lookup.{holder}
 use Rattle.records.specs.Facts.{Member, Holds}
 use Rattle.records.specs.declared.record.Record.{Record}
-use Rattle.records.specs.declared.holder.Found.TheVariants.{At}
+use Rattle.std.specs.Prelude.{Ok}
 use Rattle.records.proofs.Locations.{holder_hit}
 use Rattle.banks.specs.Rules.{placed, is_lock, banks_hold}
 use Rattle.banks.specs.Values.{value_of, byte_at, lock_byte}
@@ -68,7 +68,7 @@ lock_value map store p bank r L =
     let w : r.width ≡ 1 = L.its_width in
     let f : r.first ≡ 0x02 = L.its_first in
     let h : Holds r bank 0x02 = record { same_bank = L.its_bank; from = omega arith; to = omega arith } in
-    let e : holder (records_of map) bank 0x02 ≡ At r =
+    let e : holder (records_of map) bank 0x02 ≡ Ok r =
     holder_hit map (placed_ordered map (length store) p) bank 0x02 r L.member h in
     single (part r.offset r.width store) (length_part r.offset r.width store i ∙ w)
     ∙ ap (λ (n : ℕ). n ∷ []) (first_byte r.offset r.width store (omega arith) ∙ rw e)

@@ -8,7 +8,7 @@ use Prim.Native.Nat.{ℕ}
 use native.Mathlib.Omega.{arith}
 use borrow.Author.Tests.{eqb-true, eqb-false, eq-eqb, ne_eqb}
 use lib.Dec.{eqb}
-use Rattle.std.specs.Prelude.{if◌then◌else◌}
+use Rattle.std.specs.Prelude.{if◌then◌else◌, Ok, Err}
 use Rattle.laws.proofs.Tests.{both, and_of, clash, denied}
 use Rattle.laws.proofs.Items.{every_at}
 use Rattle.laws.proofs.Sides.{and_left, and_right, chosen, same_test}
@@ -18,7 +18,6 @@ use Rattle.records.specs.Order.{ordered}
 use Rattle.records.specs.Lookup.{holder}
 use Rattle.records.specs.Facts.{Member, Holds}
 use Rattle.records.specs.declared.record.Record.{Record}
-use Rattle.records.specs.declared.holder.Found.TheVariants.{At, Missing}
 use Rattle.records.specs.declared.holder.Why.{Why}
 use Rattle.records.proofs.Locations.{holds_is, is_holding, holder_at, holder_none, holder_hit, mapped_member}
 use Rattle.banks.specs.Rules.{is_head, is_lock, bank_has, bank_holds, banks_hold}
@@ -52,7 +51,7 @@ module _ (such : Record → Bool) (location : ℕ) (single : Single such locatio
       (x.0, x.1, record { same_bank = eqb-true x.0.bank bank b.0; from = omega arith; to = omega arith }, b.1)
 
   -- it is the one that the look-up finds there
-  pub has_at : ordered map ≡ true → (r : Record) → holder (records_of map) bank location ≡ At r
+  pub has_at : ordered map ≡ true → (r : Record) → holder (records_of map) bank location ≡ Ok r
       → bank_has such (records_of map) bank ≡ such r
   has_at o r e =
       let k = holder_at bank location (records_of map) r e in
@@ -65,7 +64,7 @@ module _ (such : Record → Bool) (location : ℕ) (single : Single such locatio
       some_of (λ x. eqb x.bank bank && such x) (records_of map) r k.0
       (and_of (eqb r.bank bank) (such r) (eq-eqb r.bank bank (holds_is r bank location k.1).same_bank) t))
 
-  pub has_none : (w : Why) → holder (records_of map) bank location ≡ Missing w → bank_has such (records_of map) bank ≡ false
+  pub has_none : (w : Why) → holder (records_of map) bank location ≡ Err w → bank_has such (records_of map) bank ≡ false
   has_none w e =
       same_test (bank_has such (records_of map) bank) false
       (λ t.

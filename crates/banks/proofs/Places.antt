@@ -1,38 +1,24 @@
 -- Rule 10: the places of the records, as a walk over the map meets them, and what they are to each other.
 -- Assumes nothing.
-use mathlib.Core.Path.{◌≡◌, ap, sym, ◌∙◌, subst}
+use mathlib.Core.Path.{◌≡◌, sym, ◌∙◌, subst}
 use mathlib.Core.Logic.{◌⊎◌, inl, inr, ⊎_elim}
-use mathlib.Core.Bool.{Bool, true, false, not}
+use mathlib.Core.Bool.{true}
 use mathlib.Core.List.{List, [], ◌∷◌, Memᴰ}
-use Prim.Native.Nat.{ℕ, ◌+◌, ◌/◌, ◌<◌}
+use Prim.Native.Nat.{ℕ}
 use borrow.Author.Tests.{leb-true}
 use lib.Dec.{leb}
-use lib.ListN.{length}
 use Rattle.laws.specs.Lists.{every}
 use Rattle.laws.proofs.Tests.{both}
 use Rattle.laws.proofs.Items.{every_at}
-use Rattle.laws.proofs.Sides.{either, and_left, and_right, failed, passed}
-use Rattle.records.specs.Map.{record_at, records_of, places_end}
+use Rattle.laws.proofs.Sides.{either, and_left, and_right}
+use Rattle.records.specs.Map.{records_of, places_end}
 use Rattle.records.specs.Order.{ordered}
 use Rattle.records.specs.declared.record.Record.{Record}
-use Rattle.records.proofs.Walk.{from, next}
 use Rattle.records.proofs.Members.{member_fields}
 use Rattle.records.proofs.Locations.{holds_is, holder_at}
 use Rattle.banks.specs.Rules.{inside, clear, disjoint, places_hold, placed}
 use Rattle.banks.specs.Facts.{Apart}
 use Rattle.banks.specs.Promises.{MemberInside, MembersApart, HolderWithin}
-
--- a turn of the walk
-module _ (map : List ℕ) {n i : ℕ} {x b : Bool} {r : Record} (q : n ≡ length map / 8) where
-  pub disjoint_stops : x ≡ disjoint (from map n i) → i < n → r ≡ record_at map i → b ≡ every (clear r)
-      (from map (length map / 8) (i + 1))
-      → not b ≡ true → false ≡ x
-  disjoint_stops v h e t k = sym (v ∙ ap disjoint (next map n i h r e) ∙ rw (q, failed t k))
-
-  pub disjoint_goes_on : x ≡ disjoint (from map n i) → i < n → r ≡ record_at map i → b ≡ every (clear r)
-      (from map (length map / 8) (i + 1))
-      → not b ≡ false → x ≡ disjoint (from map n (i + 1))
-  disjoint_goes_on v h e t k = v ∙ ap disjoint (next map n i h r e) ∙ rw (q, passed t k)
 
 -- two places
 clear_apart : (p r : Record) → clear p r ≡ true → Apart p r

@@ -15,8 +15,8 @@ use Rattle.records.specs.Map.{records_of, places_end}
 use Rattle.records.specs.Lookup.{holder}
 use Rattle.records.specs.Facts.{Member}
 use Rattle.records.specs.declared.record.Record.{Record}
-use Rattle.records.specs.declared.holder.Found.{Found}
-use Rattle.records.specs.declared.holder.Found.TheVariants.{At, Missing}
+use Rattle.records.specs.declared.holder.Why.{Why}
+use Rattle.std.specs.Prelude.{Result, Ok, Err}
 use Rattle.records.proofs.Members.{member_fields}
 use Rattle.records.proofs.Locations.{holder_at}
 use Rattle.banks.specs.Rules.{placed, is_head, head_byte_holds, head_holds, head_bytes_hold, check_number}
@@ -55,18 +55,18 @@ module _ (map store bytes : List ℕ) (r : Record) (p : placed map (length store
   unfolding put_value
   unmapped j h = byte_stays r.offset j bytes store (⊎_elim (λ k. inl k) (λ k. inr (omega arith)) (h r m))
 
-  locks : (bank : ℕ) → (holder (records_of map) bank 0x02 ≡ At r → ⊥) → lock_byte (records_of map)
+  locks : (bank : ℕ) → (holder (records_of map) bank 0x02 ≡ Ok r → ⊥) → lock_byte (records_of map)
       (put_value r bytes store) bank ≡ lock_byte (records_of map) store bank
   unfolding lock_byte byte_at
   locks bank n = go (holder (records_of map) bank 0x02) refl
     where
-      go : (f : Found) → holder (records_of map) bank 0x02 ≡ f → byte_at (put_value r bytes store) f ≡ byte_at store f
-      go (Missing w) e = refl
-      go (At l) e =
+      go : (f : Result Record Why) → holder (records_of map) bank 0x02 ≡ f → byte_at (put_value r bytes store) f ≡ byte_at store f
+      go (Err w) e = refl
+      go (Ok l) e =
           let k = (holder_at bank 0x02 (records_of map) l e).0 in
           let f = member_fields map (placed_ordered map (length store) p) l k in
           sym (value_byte l (put_value r bytes store) (omega arith))
-          ∙ ap (λ (v : List ℕ). get_or v 0 0) (others l k (λ q. n (e ∙ ap At q))) ∙ value_byte l store (omega arith)
+          ∙ ap (λ (v : List ℕ). get_or v 0 0) (others l k (λ q. n (e ∙ ap Ok q))) ∙ value_byte l store (omega arith)
 
 pub value_put : ValuePut
 unfolding put_value

@@ -1,12 +1,11 @@
 -- What the rules 10 and 11 say, as facts about numbers: the floors above lean on these, and not on the tests.
 -- Assumes nothing.
-use Rattle.std.specs.Prelude.{◌≡◌, ◌⊎◌, true, List, ℕ, ◌≤◌, ◌<◌, length, get_or}
+use Rattle.std.specs.Prelude.{◌≡◌, ◌⊎◌, true, List, ℕ, ◌≤◌, ◌<◌, length, get_or, Ok}
 use Rattle.records.specs.Map.{records_of, places_end}
 use Rattle.records.specs.Order.{ordered}
 use Rattle.records.specs.Lookup.{holder}
 use Rattle.records.specs.Facts.{Member, FieldsHold, Holds}
 use Rattle.records.specs.declared.record.Record.{Record}
-use Rattle.records.specs.declared.holder.Found.TheVariants.{At}
 use Rattle.banks.specs.Rules.{placed, banks_hold, head_bytes_hold}
 use Rattle.banks.specs.Values.{value_of, put_value, lock_byte}
 
@@ -51,6 +50,6 @@ pub record PutLeaves (map store bytes : List ℕ) (r : Record) : Type 0 where
       → get_or (put_value r bytes store) j 0 ≡ get_or store j 0
   -- every lock byte stays but one that is the value itself
   pub locks :
-      (bank : ℕ) → (holder (records_of map) bank 0x02 ≡ At r → ⊥)
+      (bank : ℕ) → (holder (records_of map) bank 0x02 ≡ Ok r → ⊥)
       → lock_byte (records_of map) (put_value r bytes store) bank ≡ lock_byte (records_of map) store bank
   pub as_long : length (put_value r bytes store) ≡ length store

@@ -1,6 +1,6 @@
 -- What is proved of map, store and image: the numbers, the places, lock bytes, the values. The proofs stand in proofs/.
 -- Assumes nothing.
-use Rattle.std.specs.Prelude.{◌≡◌, ◌⊎◌, ◌↔◌, true, List, ℕ, ◌≤◌, ◌<◌, length}
+use Rattle.std.specs.Prelude.{◌≡◌, ◌⊎◌, ◌↔◌, true, List, ℕ, ◌≤◌, ◌<◌, length, Ok}
 use Rattle.laws.specs.Numbers.{Given}
 use Rattle.laws.specs.Settled.{Settles}
 use Rattle.records.specs.Map.{records_of, writable, places_end, mapped}
@@ -8,7 +8,6 @@ use Rattle.records.specs.Order.{ordered}
 use Rattle.records.specs.Lookup.{holder}
 use Rattle.records.specs.Facts.{Member}
 use Rattle.records.specs.declared.record.Record.{Record}
-use Rattle.records.specs.declared.holder.Found.TheVariants.{At}
 use Rattle.banks.specs.Rules.{placed, is_head, banks_hold, check_tests, check_number}
 use Rattle.banks.specs.Values.{value_of, put_value}
 use Rattle.banks.specs.Facts.{Stands, Apart, Within, LockRecord, PutLeaves}
@@ -40,7 +39,7 @@ MembersApart =
 abbrev pub HolderWithin : Type 0
 HolderWithin =
     (map : List ℕ) (n bank location : ℕ) → placed map n ≡ true
-    → (r : Record) → holder (records_of map) bank location ≡ At r → Within map n bank location r
+    → (r : Record) → holder (records_of map) bank location ≡ Ok r → Within map n bank location r
 
 -- Lock bytes.
 
@@ -49,7 +48,7 @@ abbrev pub HasLock : Type 0
 HasLock =
     (map : List ℕ) → ordered map ≡ true → banks_hold (records_of map) ≡ true
     → (bank : ℕ) → 0 < bank → mapped (records_of map) bank ≡ true
-    → (r : Record) × LockRecord map bank r × (holder (records_of map) bank 0x02 ≡ At r)
+    → (r : Record) × LockRecord map bank r × (holder (records_of map) bank 0x02 ≡ Ok r)
 
 -- no writable value is in bank 0
 abbrev pub WritableBank : Type 0

@@ -1,11 +1,10 @@
 -- A value's bytes, and a bank's lock byte. Paper 01, "Map, store, reset image".
 -- Assumes nothing.
-use Rattle.std.specs.Prelude.{ℕ, ◌-◌, List, ◌++◌, length, get_or, replicate}
+use Rattle.std.specs.Prelude.{ℕ, ◌-◌, List, ◌++◌, length, get_or, replicate, Result, Ok, Err}
 use Rattle.laws.specs.Parts.{part, put}
 use Rattle.records.specs.Lookup.{holder}
 use Rattle.records.specs.declared.record.Record.{Record}
-use Rattle.records.specs.declared.holder.Found.{Found}
-use Rattle.records.specs.declared.holder.Found.TheVariants.{At, Missing}
+use Rattle.records.specs.declared.holder.Why.{Why}
 
 -- a value's bytes are its part of the store, from its offset on
 unfoldable pub value_of : Record → List ℕ → List ℕ
@@ -20,9 +19,9 @@ abbrev pub padded : List ℕ → List ℕ
 padded value = value ++ replicate (8 - length value) 0
 
 -- the byte at the record's place; 0 where there is none
-unfoldable pub byte_at : List ℕ → Found → ℕ
-byte_at store (At r) = get_or store r.offset 0
-byte_at store (Missing w) = 0
+unfoldable pub byte_at : List ℕ → Result Record Why → ℕ
+byte_at store (Ok r) = get_or store r.offset 0
+byte_at store (Err w) = 0
 
 -- a bank's lock byte: the stored byte at 0x02
 unfoldable pub lock_byte : List Record → List ℕ → ℕ → ℕ

@@ -9,7 +9,7 @@ use Rattle.laws.proofs.Tests.{if_eq}
 use Rattle.entries.specs.Entry.{is_broken}
 use Rattle.entries.specs.declared.entry.Entry.{Entry}
 use Rattle.census.specs.Class.{frame_class}
-use Rattle.census.specs.Census.{nothing, one_more, ended, with_frame, with_power_on, counted_all, entries_of, census_of}
+use Rattle.census.specs.Census.{nothing, one_more, ended, with_frame, with_power_on, counted_all, entries_of, census_of, end_number}
 use Rattle.census.specs.Facts.{before_end, is_of_class, is_power_on, CountsAre}
 use Rattle.census.specs.declared.counts.Census.{Census}
 use Rattle.census.proofs.Counted.{counted_none, counted_more, counted_broken}
@@ -19,7 +19,7 @@ pub record Adds (c : Census) (es : List Entry) (r : Census) : Type 0 where
   pub each : (k : ℕ) → k < length c.counts
       → get_or r.counts k 0 ≡ get_or c.counts k 0 + count (is_of_class k) (before_end es)
   pub apart : r.power_ons ≡ c.power_ons + count is_power_on (before_end es)
-  pub number : r.number ≡ (if some is_broken es then 13 else 0)
+  pub number : end_number r ≡ (if some is_broken es then 13 else 0)
 
 -- one more of class j is seen at class j only
 at_class : (j k n : ℕ) (counts : List ℕ) → k < length counts
@@ -29,7 +29,7 @@ at_class j k n counts h =
     (λ e. rw e (omega (arith, get_or-set_same counts k (get_or counts k 0 + 1) 0 h)))
     (λ d. omega (arith, get_or-set_other counts j k (get_or counts j 0 + 1) 0 (λ e. d (sym e))))
 
-adds_none : (c : Census) → c.number ≡ 0 → Adds c [] (counted_all c [])
+adds_none : (c : Census) → end_number c ≡ 0 → Adds c [] (counted_all c [])
 adds_none c z =
     rw (counted_none c)
     (record { long = refl; each = λ k h. omega arith; apart = omega arith; number = z })
@@ -59,7 +59,7 @@ adds_power_on c r es p =
 adds_broken : (c : Census) (es : List Entry) → Adds c (Entry.Broken ∷ es) (ended c)
 adds_broken c es = record { long = refl; each = λ k h. omega arith; apart = omega arith; number = refl }
 
-pub adds : (c : Census) (es : List Entry) → c.number ≡ 0 → Adds c es (counted_all c es)
+pub adds : (c : Census) (es : List Entry) → end_number c ≡ 0 → Adds c es (counted_all c es)
 adds c [] z = adds_none c z
 adds c (Entry.Frame clock frame ∷ es) z =
     rw (counted_more c (Entry.Frame clock frame) es z)

@@ -1,12 +1,12 @@
 -- The capture that has all frames in their order: its records are these frames, each once, and none ends the count.
 -- Assumes nothing.
-use Rattle.std.proofs.Common.{◌≡◌, ℕ, zero, suc, ◌+◌, ◌<◌, ◌≤◌, false, List, [], ◌++◌, refl, ap, ◌∙◌, arith, eq-eqb, ne_eqb}
+use Rattle.std.proofs.Common.{◌≡◌, ℕ, zero, suc, ◌+◌, ◌<◌, ◌≤◌, false, List, [], ◌++◌, refl, ap, ◌∙◌, arith, eq-eqb, ne_eqb, Ok}
 use Rattle.laws.specs.Lists.{items, some}
 use Rattle.laws.specs.Counts.{below, count}
 use Rattle.laws.proofs.Tests.{if_eq}
 use Rattle.entries.specs.Entry.{entry_of, entry_at, is_broken}
 use Rattle.entries.specs.declared.entry.Entry.{Entry}
-use Rattle.census.specs.Census.{nothing, entries_of, census_of}
+use Rattle.census.specs.Census.{nothing, entries_of, census_of, end_number}
 use Rattle.census.specs.Facts.{frame_is, is_power_on, before_end}
 use Rattle.census.specs.Figures.{figures, frame_record, capture_of, AllFrames}
 use Rattle.census.proofs.Records.{one_then, none_are}
@@ -57,7 +57,7 @@ module _ (n : ℕ) (fits : n ≤ 16777216) where
   are : entries_of all ≡ items (Entry.Frame 0) 0 n
   are = records_are 0 n (omega arith)
 
-  pub number_0 : (census_of all).number ≡ 0
+  pub number_0 : end_number (census_of all) ≡ 0
   unfolding census_of
   number_0 = (adds nothing (entries_of all) refl).number ∙ rw (are, none_broken 0 n)
 
@@ -70,7 +70,7 @@ module _ (n : ℕ) (fits : n ≤ 16777216) where
 
 pub all_frames : AllFrames
 all_frames =
-    census_is (census_of (capture_of (below 16777216))) (record { counts = figures; power_ons = 0; number = 0 })
+    census_is (census_of (capture_of (below 16777216))) (record { counts = figures; power_ons = 0; end = Ok tt })
     (capture_figures (capture_of (below 16777216)) (number_0 16777216 (omega arith)) (each_once 16777216 (omega arith)))
     (power_ons_0 16777216 (omega arith))
     (number_0 16777216 (omega arith))

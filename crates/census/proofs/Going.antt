@@ -4,7 +4,7 @@ use Rattle.std.proofs.Common.{◌≡◌, ℕ, ◌-◌, ◌*◌, ◌^◌, ◌<◌
 use Rattle.laws.proofs.Tests.{both}
 use Rattle.entries.specs.declared.entry.Entry.{Entry}
 use Rattle.census.specs.Class.{frame_class}
-use Rattle.census.specs.Census.{nothing, total, HasRoom, counted, counted_all, entries_of, census_of}
+use Rattle.census.specs.Census.{nothing, total, HasRoom, counted, counted_all, entries_of, census_of, end_number}
 use Rattle.census.specs.Reader.{rest_at, next_at, place_after, goes_on, counted_next}
 use Rattle.census.specs.declared.counts.Census.{Census}
 use Rattle.census.specs.declared.next.Next.{Next}
@@ -33,7 +33,7 @@ next_fifteen c Unfinished h = h
 next_fifteen c End h = h
 
 module _ {all : Census} {capture : List ℕ} {c : Census} {at : ℕ} (g : Going all capture c at) where
-  pub going_on : goes_on c.number (rest_at (length capture) at) ≡ true
+  pub going_on : goes_on (end_number c) (rest_at (length capture) at) ≡ true
       → Going all capture (counted_next c (next_at capture at)) (place_after (length capture) at)
   going_on more =
       record {
@@ -42,13 +42,13 @@ module _ {all : Census} {capture : List ℕ} {c : Census} {at : ℕ} (g : Going 
         same = g.same ∙ goes_more capture at c more;
       }
 
-  pub going_ends : goes_on c.number (rest_at (length capture) at) ≡ false → c ≡ all
+  pub going_ends : goes_on (end_number c) (rest_at (length capture) at) ≡ false → c ≡ all
   going_ends no_more = sym (g.same ∙ goes_no_more capture at c no_more)
 
   -- one turn of a loop, by what its calls answer
-  module _ {rest : ℕ} {goes : Bool} (r : rest ≡ rest_at (length capture) at) (e : goes ≡ goes_on c.number rest) where
-    goes_is : goes ≡ goes_on c.number (rest_at (length capture) at)
-    goes_is = e ∙ ap (goes_on c.number) r
+  module _ {rest : ℕ} {goes : Bool} (r : rest ≡ rest_at (length capture) at) (e : goes ≡ goes_on (end_number c) rest) where
+    goes_is : goes ≡ goes_on (end_number c) (rest_at (length capture) at)
+    goes_is = e ∙ ap (goes_on (end_number c)) r
 
     pub turned : goes ≡ true → {n : Next} → n ≡ next_at capture at → {d : Census} → d ≡ counted_next c n
         → {behind : ℕ} → behind ≡ place_after (length capture) at → Going all capture d behind
@@ -56,7 +56,7 @@ module _ {all : Census} {capture : List ℕ} {c : Census} {at : ℕ} (g : Going 
 
     pub inside : goes ≡ true → at < length capture
     inside more =
-        let test = (both (eqb c.number 0) (ltb 0 (rest_at (length capture) at)) (sym goes_is ∙ more)).1 in
+        let test = (both (eqb (end_number c) 0) (ltb 0 (rest_at (length capture) at)) (sym goes_is ∙ more)).1 in
         omega (arith, ltb-true 0 (rest_at (length capture) at) test)
 
     pub nearer : goes ≡ true → {behind : ℕ} → behind ≡ place_after (length capture) at

@@ -1,7 +1,7 @@
 -- Numbered items: which one stands at a place, and each under a function; and what a test of some item says of them.
 -- Assumes nothing.
-use Rattle.std.proofs.Common.{◌≡◌, ℕ, zero, suc, ◌+◌, ◌<◌, Bool, true, ◌||◌, List, [], ◌∷◌, ◌++◌, map, length, get_or, sym, refl, ap, ◌∙◌, ⊎_elim, le_of_suc-le-suc, not-suc-le-zero, add-zero, add-suc, suc-add, zero-add, arith}
-use mathlib.Core.Bool.{false≢true, or_assoc}
+use Rattle.std.proofs.Common.{◌≡◌, ℕ, zero, suc, ◌+◌, ◌<◌, Bool, true, map, length, get_or, sym, refl, ap, ◌∙◌, ⊎_elim, le_of_suc-le-suc, not-suc-le-zero, add-zero, add-suc, suc-add, zero-add, arith}
+use mathlib.Core.Bool.{false≢true}
 use Rattle.laws.specs.Lists.{items, some}
 use Rattle.laws.proofs.Sides.{either}
 
@@ -23,10 +23,6 @@ module _ {A : Type 0} where
       → map f (items item i n) ≡ items (λ (k : ℕ). f (item k)) i n
   map_items f item i zero = refl
   map_items f item i (suc n) = rw (map_items f item (suc i) n)
-
-  pub some_joined : (f : A → Bool) (a b : List A) → some f (a ++ b) ≡ (some f a || some f b)
-  some_joined f [] b = refl
-  some_joined f (x ∷ a) b = rw (some_joined f a b) (sym (or_assoc (f x) (some f a) (some f b)))
 
   -- some item passes: the one of this number
   pub some_numbered : (f : A → Bool) (item : ℕ → A) (i n : ℕ) → some f (items item i n) ≡ true

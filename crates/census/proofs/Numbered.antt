@@ -2,15 +2,16 @@
 -- Assumes nothing.
 use Rattle.std.proofs.Common.{◌≡◌, ℕ, ◌+◌, ◌/◌, ◌%◌, ◌<◌, ◌≤◌, Bool, true, ◌||◌, ltb, ◌⊎◌, List, length, sym, refl, ap, ◌∙◌, inl, inr, ⊎_elim, zero-add, arith, ltb-true, le-ltb, lt-ltb}
 use Rattle.std.specs.Prelude.{if◌then◌else◌}
+use Rattle.std.proofs.lemmas.List.Folds.{list_any-append}
 use Rattle.laws.specs.Lists.{some}
 use Rattle.laws.proofs.Members.{some_of, items_member}
 use Rattle.laws.proofs.Sides.{either, or_left, or_right, chosen}
 use Rattle.laws.proofs.Tests.{if_lt, if_eq}
 use Rattle.entries.specs.Entry.{entry_of, entry_at, whole_entries, is_broken}
 use Rattle.entries.specs.declared.entry.Entry.{Entry}
-use Rattle.census.specs.Census.{nothing, unfinished, entries_of, census_of}
+use Rattle.census.specs.Census.{nothing, unfinished, entries_of, census_of, end_number}
 use Rattle.census.specs.Facts.{kind_at, Unknown, NumberIs}
-use Rattle.census.proofs.Listed.{some_joined, some_numbered}
+use Rattle.census.proofs.Listed.{some_numbered}
 use Rattle.census.proofs.Adds.{adds}
 
 -- a record of unknown kind is one whose kind is over 1
@@ -38,14 +39,14 @@ module _ (capture : List ℕ) where
       ≡ (some is_broken (whole_entries capture) || ltb 0 (length capture % 8))
   unfolding entries_of
   some_broken =
-      some_joined is_broken (whole_entries capture) (unfinished (length capture))
+      list_any-append is_broken (whole_entries capture) (unfinished (length capture))
       ∙ ap (λ (t : Bool). some is_broken (whole_entries capture) || t) (unfinished_broken (length capture))
 
-  number_by : (census_of capture).number ≡ (if some is_broken (entries_of capture) then 13 else 0)
+  number_by : end_number (census_of capture) ≡ (if some is_broken (entries_of capture) then 13 else 0)
   unfolding census_of
   number_by = (adds nothing (entries_of capture) refl).number
 
-  pub number_either : ((census_of capture).number ≡ 0) ⊎ ((census_of capture).number ≡ 13)
+  pub number_either : (end_number (census_of capture) ≡ 0) ⊎ (end_number (census_of capture) ≡ 13)
   number_either =
       ⊎_elim (λ p. inr (sym p.1)) (λ p. inl (sym p.1))
       (chosen (some is_broken (entries_of capture)) (sym number_by))
@@ -66,7 +67,7 @@ module _ (capture : List ℕ) where
       (ap (λ (i : ℕ). is_broken (entry_at capture i)) (zero-add u.place)
       ∙ broken_at capture u.place ∙ lt-ltb 1 (kind_at capture u.place) u.kind)
 
-  thirteen_from : (census_of capture).number ≡ 13 → (0 < length capture % 8) ⊎ Unknown capture
+  thirteen_from : end_number (census_of capture) ≡ 13 → (0 < length capture % 8) ⊎ Unknown capture
   thirteen_from e =
       ⊎_elim
       (λ p.
@@ -75,12 +76,12 @@ module _ (capture : List ℕ) where
       (λ p. absurd (omega (arith, p.1)))
       (chosen (some is_broken (entries_of capture)) (sym number_by ∙ e))
 
-  thirteen_of : (0 < length capture % 8) ⊎ Unknown capture → (census_of capture).number ≡ 13
+  thirteen_of : (0 < length capture % 8) ⊎ Unknown capture → end_number (census_of capture) ≡ 13
   thirteen_of u = number_by ∙ rw (some_broken ∙ ⊎_elim
       (λ h. or_right (some is_broken (whole_entries capture)) _ (lt-ltb 0 (length capture % 8) h))
       (λ k. or_left _ (ltb 0 (length capture % 8)) (some_unknown k)) u)
 
-  none_from : (census_of capture).number ≡ 0
+  none_from : end_number (census_of capture) ≡ 0
       → (length capture % 8 ≡ 0) × ((i : ℕ) → i < length capture / 8 → kind_at capture i ≤ 1)
   none_from z = (
     if_lt {A = ℕ} (λ _. length capture % 8 ≡ 0) 0 (length capture % 8) {x = 0} {y = 0}
@@ -92,7 +93,7 @@ module _ (capture : List ℕ) where
   )
 
   none_of : (length capture % 8 ≡ 0) × ((i : ℕ) → i < length capture / 8 → kind_at capture i ≤ 1)
-      → (census_of capture).number ≡ 0
+      → end_number (census_of capture) ≡ 0
   none_of p =
       ⊎_elim (λ z. z)
       (λ e.

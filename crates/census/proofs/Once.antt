@@ -6,7 +6,7 @@ use Rattle.laws.proofs.Tests.{if_lt}
 use Rattle.frames.specs.Read.{read_of}
 use Rattle.entries.specs.declared.entry.Entry.{Entry}
 use Rattle.census.specs.Class.{refused_class, frame_class}
-use Rattle.census.specs.Census.{nothing, counted, counted_all, entries_of, census_of}
+use Rattle.census.specs.Census.{nothing, counted, counted_all, entries_of, census_of, end_number}
 use Rattle.census.specs.Facts.{before_end, frame_is, is_of_class}
 use Rattle.census.specs.Figures.{how_many}
 use Rattle.census.specs.declared.counts.Census.{Census}
@@ -15,22 +15,22 @@ use Rattle.census.proofs.Samples.{of_class, many}
 
 -- ---- nothing was refused: there is no end before the last record
 
-all_before : (c : Census) (es : List Entry) → c.number ≡ 0 → (counted_all c es).number ≡ 0 → before_end es ≡ es
+all_before : (c : Census) (es : List Entry) → end_number c ≡ 0 → end_number (counted_all c es) ≡ 0 → before_end es ≡ es
 unfolding counted_all
 all_before c [] z e = refl
 all_before c (Entry.Frame clock frame ∷ es) z e =
     ap (λ (l : List Entry). Entry.Frame clock frame ∷ l)
-    (all_before (counted c (Entry.Frame clock frame)) es z (rw (eq-eqb c.number 0 z) at e))
+    (all_before (counted c (Entry.Frame clock frame)) es z (rw (eq-eqb (end_number c) 0 z) at e))
 all_before c (Entry.PowerOn ∷ es) z e =
     ap (λ (l : List Entry). Entry.PowerOn ∷ l)
-    (all_before (counted c Entry.PowerOn) es z (rw (eq-eqb c.number 0 z) at e))
-all_before c (Entry.Broken ∷ es) z e = absurd (go es (rw (eq-eqb c.number 0 z) at e))
+    (all_before (counted c Entry.PowerOn) es z (rw (eq-eqb (end_number c) 0 z) at e))
+all_before c (Entry.Broken ∷ es) z e = absurd (go es (rw (eq-eqb (end_number c) 0 z) at e))
   where
-    go : (es : List Entry) → (counted_all (counted c Entry.Broken) es).number ≡ 0 → ⊥
+    go : (es : List Entry) → end_number (counted_all (counted c Entry.Broken) es) ≡ 0 → ⊥
     go [] q = omega arith
     go (x ∷ es) q = omega arith
 
-pub no_end : (capture : List ℕ) → (census_of capture).number ≡ 0 → before_end (entries_of capture) ≡ entries_of capture
+pub no_end : (capture : List ℕ) → end_number (census_of capture) ≡ 0 → before_end (entries_of capture) ≡ entries_of capture
 unfolding census_of
 no_end capture e = all_before nothing (entries_of capture) refl e
 

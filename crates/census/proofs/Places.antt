@@ -1,10 +1,8 @@
--- What stands at a place of a capture, and the place behind it, by how many bytes are left; and the same by what a call has
--- answered.
+-- What stands at a place of a capture, and the place behind it, by how many bytes are left.
 -- Assumes nothing.
-use Rattle.std.proofs.Common.{◌≡◌, ℕ, ◌+◌, ◌-◌, ◌<◌, ◌≤◌, List, length, take, drop, sym, refl, ap, ◌∙◌, arith, length-drop, take_all}
+use Rattle.std.proofs.Common.{◌≡◌, ℕ, ◌+◌, ◌<◌, ◌≤◌, List, length, drop, refl, arith}
 use Rattle.laws.proofs.Tests.{if_lt, if_eq}
 use Rattle.entries.specs.Entry.{entry_at}
-use Rattle.entries.specs.declared.entry.Entry.{Entry}
 use Rattle.census.specs.Reader.{rest_at, next_at, place_after}
 use Rattle.census.specs.declared.next.Next.TheVariants.{Whole, Unfinished, End}
 
@@ -39,25 +37,3 @@ pub after_few : (long at : ℕ) → rest_at long at < 8 → place_after long at 
 unfolding place_after
 after_few long at h =
     if_lt (λ place. place ≡ at + rest_at long at) (rest_at long at) _ (λ l. omega arith) (λ l. absurd (omega arith))
-
--- ---- by the rest that was answered
-
-module _ (long at rest : ℕ) (e : rest ≡ rest_at long at) where
-  pub behind_few : rest < 8 → at + rest ≡ place_after long at
-  behind_few few = ap (λ (m : ℕ). at + m) e ∙ sym (after_few long at (omega arith))
-
-  pub behind_record : 8 ≤ rest → at + 8 ≡ place_after long at
-  behind_record many = sym (after_whole long at (omega arith))
-
-module _ (capture : List ℕ) (at rest : ℕ) (e : rest ≡ rest_at (length capture) at) where
-  pub nothing_stands : rest ≡ 0 → End ≡ next_at capture at
-  nothing_stands none = sym (next_end capture at (omega arith))
-
-  pub few_stand : (rest ≡ 0 → ⊥) → rest < 8 → Unfinished ≡ next_at capture at
-  few_stand some few = sym (next_unfinished capture at (omega arith) (omega arith))
-
-  pub record_stands : (entry : Entry) → 8 ≤ rest → entry ≡ entry_at (take (length capture - at) (drop at capture)) 0
-      → Whole entry ≡ next_at capture at
-  record_stands entry many is =
-      let all = take_all (length capture - at) (drop at capture) (omega (arith, length-drop at capture)) in
-      ap Whole (is ∙ ap (λ (bytes : List ℕ). entry_at bytes 0) all) ∙ sym (next_whole capture at (omega arith))

@@ -3,7 +3,7 @@
 use Rattle.std.proofs.Common.{◌≡◌, ℕ, zero, suc, ◌+◌, ◌^◌, ◌<◌, ◌≤◌, Bool, true, false, List, [], ◌∷◌, length, get_or, arith}
 use mir.Val.{bool_byte}
 use Rattle.frames.specs.Read.{read_of}
-use Rattle.census.specs.Class.{class_of, frame_class}
+use Rattle.census.specs.Class.{class_of, numbered, frame_class}
 use Rattle.census.specs.Census.{sum, HasRoom, one_more, with_frame}
 use Rattle.census.specs.declared.counts.Census.{Census}
 
@@ -22,8 +22,8 @@ pub counts_fit : (c : Census) → HasRoom c → (length c.counts ≡ 15) × (sum
 counts_fit c room = let some = room.1 in (room.0, omega arith)
 
 -- a frame, by its class
-pub in_class : (c : Census) (frame class : ℕ) (counts : List ℕ) → class ≡ class_of (read_of frame)
+pub in_class : (c : Census) (frame class : ℕ) (counts : List ℕ) → class ≡ class_of (numbered (read_of frame))
     → counts ≡ one_more class c.counts
-    → record { counts = counts; power_ons = c.power_ons; number = c.number } ≡ with_frame c frame
+    → record { counts = counts; power_ons = c.power_ons; end = c.end } ≡ with_frame c frame
 unfolding frame_class
 in_class c frame class counts e more = rw (more, e)

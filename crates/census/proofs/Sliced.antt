@@ -5,11 +5,12 @@ use native.Mathlib.Nat.{mod-add-mod}
 use lib.ListN.{get_or-replicate}
 use Rattle.laws.specs.Lists.{every}
 use Rattle.laws.proofs.Tests.{both, if_lt}
+use Rattle.refusals.proofs.Told.{number_settles}
 use Rattle.entries.specs.Entry.{whole_entries}
 use Rattle.entries.specs.Promises.{is_whole}
 use Rattle.entries.specs.declared.entry.Entry.{Entry}
 use Rattle.entries.proofs.Sequences.{items_same}
-use Rattle.census.specs.Census.{nothing, counted_all, entries_of, census_of, count_at, added_to}
+use Rattle.census.specs.Census.{nothing, counted_all, entries_of, census_of, count_at, added_to, end_number}
 use Rattle.census.specs.Facts.{plus, added_up, joined, SlicesAddUp, SlicesAddTo}
 use Rattle.census.specs.declared.counts.Census.{Census}
 use Rattle.census.proofs.Records.{entries_joined, whole_are}
@@ -18,14 +19,14 @@ use Rattle.census.proofs.Listed.{get_d_items}
 use Rattle.census.proofs.Adds.{adds, counts_are}
 use Rattle.census.proofs.Ends.{census_joined}
 
-pub census_is : (c d : Census) → c.counts ≡ d.counts → c.power_ons ≡ d.power_ons → c.number ≡ d.number → c ≡ d
-census_is c d counts power-ons number = rw (counts, power-ons, number)
+pub census_is : (c d : Census) → c.counts ≡ d.counts → c.power_ons ≡ d.power_ons → end_number c ≡ end_number d → c ≡ d
+census_is c d counts power-ons number = rw (counts, power-ons, number_settles c.end d.end number)
 
 -- class by class
 plus_at : (c d : Census) (k : ℕ) → k < 15 → get_or (plus c d).counts k 0 ≡ get_or c.counts k 0 + get_or d.counts k 0
 plus_at c d k h = get_d_items (λ (k : ℕ). get_or c.counts k 0 + get_or d.counts k 0) 0 _ k h
 
-module _ (c : Census) (es : List Entry) (z : c.number ≡ 0) (long : length c.counts ≡ 15) where
+module _ (c : Census) (es : List Entry) (z : end_number c ≡ 0) (long : length c.counts ≡ 15) where
   abbrev here : Census
   here = counted_all c es
 
@@ -56,21 +57,21 @@ slices_from : (c : Census) → length c.counts ≡ 15 → (slices : List (List �
 unfolding census_of
 slices_from c long [] last h =
     by_number c
-    (λ z. rw (append-nil last, eq-eqb c.number 0 z) (plus_is c (entries_of last) z long))
-    (λ n. rw (ne_eqb c.number 0 n) (counted_ended c _ n))
+    (λ z. rw (append-nil last, eq-eqb (end_number c) 0 z) (plus_is c (entries_of last) z long))
+    (λ n. rw (ne_eqb (end_number c) 0 n) (counted_ended c _ n))
 slices_from c long (slice ∷ slices) last h =
     let p = both (is_whole slice) (every is_whole slices) h in
     let whole = eqb-true (length slice % 8) 0 p.0 in
     let rest = joined (slices ++ last ∷ []) in
     let more = slices_from (plus c (census_of slice)) refl slices last p.1 in
     by_number c
-    (λ z. rw (eq-eqb c.number 0 z)
+    (λ z. rw (eq-eqb (end_number c) 0 z)
     (ap (counted_all c) (entries_joined slice rest whole)
     ∙ counted_joined c (whole_entries slice) (entries_of rest)
     ∙ ap (λ (d : Census). counted_all d (entries_of rest))
     (ap (counted_all c) (sym (whole_are slice whole)) ∙ plus_is c (entries_of slice) z long)
     ∙ more))
-    (λ n. rw (ne_eqb c.number 0 n) (counted_ended c _ n))
+    (λ n. rw (ne_eqb (end_number c) 0 n) (counted_ended c _ n))
 
 pub slices_add_up : SlicesAddUp
 unfolding census_of

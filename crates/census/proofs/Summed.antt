@@ -7,7 +7,7 @@ use Rattle.laws.proofs.Tests.{if_eq}
 use Rattle.entries.specs.Entry.{entry_of, entry_at, whole_entries}
 use Rattle.entries.specs.declared.entry.Entry.{Entry}
 use Rattle.census.specs.Class.{frame_class}
-use Rattle.census.specs.Census.{nothing, sum, one_more, with_frame, with_power_on, counted_all, unfinished}
+use Rattle.census.specs.Census.{nothing, sum, one_more, with_frame, with_power_on, counted_all, unfinished, end_number}
 use Rattle.census.specs.Census.{entries_of, census_of}
 use Rattle.census.specs.Facts.{before_end, is_frame, ClassesAddUp}
 use Rattle.census.specs.declared.counts.Census.{Census}
@@ -52,7 +52,7 @@ unfinished_has long = if_eq HaveFrames (long % _) _ (λ e. tt) (λ n. (tt, tt))
 
 -- ---- each is counted once
 
-sum_is : (c : Census) (es : List Entry) → c.number ≡ 0 → length c.counts ≡ 15 → HaveFrames es
+sum_is : (c : Census) (es : List Entry) → end_number c ≡ 0 → length c.counts ≡ 15 → HaveFrames es
     → sum (counted_all c es).counts ≡ sum c.counts + count is_frame (before_end es)
 sum_is c [] z long h = rw (counted_none c) (omega arith)
 sum_is c (Entry.Frame clock frame ∷ es) z long h =

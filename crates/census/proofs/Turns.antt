@@ -6,7 +6,7 @@ use Rattle.laws.proofs.Tests.{both, if_lt}
 use Rattle.entries.specs.Entry.{entry_at}
 use Rattle.entries.specs.declared.entry.Entry.{Entry}
 use Rattle.census.specs.Class.{frame_class}
-use Rattle.census.specs.Census.{sum, total, one_more, counted, ended, counted_all, entries_of}
+use Rattle.census.specs.Census.{sum, total, one_more, counted, ended, counted_all, entries_of, end_number}
 use Rattle.census.specs.Reader.{rest_at, next_at, place_after, goes_on, counted_next}
 use Rattle.census.specs.declared.counts.Census.{Census}
 use Rattle.census.proofs.Places.{next_whole, next_unfinished, after_whole, after_few}
@@ -42,11 +42,11 @@ both_hold number rest e =
     let p = both (eqb number 0) (ltb 0 rest) e in
     (eqb-true number _ p.0, ltb-true _ rest p.1)
 
-pub goes_more : (capture : List ℕ) (at : ℕ) (c : Census) → goes_on c.number (rest_at (length capture) at) ≡ true
+pub goes_more : (capture : List ℕ) (at : ℕ) (c : Census) → goes_on (end_number c) (rest_at (length capture) at) ≡ true
     → counted_all c (entries_of (drop at capture))
     ≡ counted_all (counted_next c (next_at capture at)) (entries_of (drop (place_after (length capture) at) capture))
 goes_more capture at c e =
-    let p = both_hold c.number (rest_at (length capture) at) e in
+    let p = both_hold (end_number c) (rest_at (length capture) at) e in
     let long = rest_long capture at in
     by_rest (rest_at (length capture) at)
     (λ k.
@@ -62,13 +62,13 @@ goes_more capture at c e =
     )
     (counted_more c (entry_at (drop at capture) 0) _ p.0))
 
-pub goes_no_more : (capture : List ℕ) (at : ℕ) (c : Census) → goes_on c.number (rest_at (length capture) at) ≡ false
+pub goes_no_more : (capture : List ℕ) (at : ℕ) (c : Census) → goes_on (end_number c) (rest_at (length capture) at) ≡ false
     → counted_all c (entries_of (drop at capture)) ≡ c
-goes_no_more capture at c e = go (eqb c.number 0) refl e
+goes_no_more capture at c e = go (eqb (end_number c) 0) refl e
   where
-    go : (b : Bool) → eqb c.number 0 ≡ b → goes_on c.number (rest_at (length capture) at) ≡ false
+    go : (b : Bool) → eqb (end_number c) 0 ≡ b → goes_on (end_number c) (rest_at (length capture) at) ≡ false
         → counted_all c (entries_of (drop at capture)) ≡ c
-    go false n f = counted_ended c _ (eqb-false c.number 0 n)
+    go false n f = counted_ended c _ (eqb-false (end_number c) 0 n)
     go true y f =
         let none : rest_at (length capture) at ≤ 0 = ltb-false 0 (rest_at (length capture) at) (rw y at f) in
         rw (none_are (drop at capture) (drop_of_length-le capture {i = at} (omega arith))) (counted_none c)
@@ -87,10 +87,10 @@ counted_few c Entry.PowerOn = omega arith
 counted_few c Entry.Broken = omega arith
 
 pub few_more : (capture : List ℕ) (at : ℕ) (c : Census) → 8 * total c ≤ at
-    → goes_on c.number (rest_at (length capture) at) ≡ true
+    → goes_on (end_number c) (rest_at (length capture) at) ≡ true
     → 8 * total (counted_next c (next_at capture at)) ≤ place_after (length capture) at
 few_more capture at c few e =
-    let p = both_hold c.number (rest_at (length capture) at) e in
+    let p = both_hold (end_number c) (rest_at (length capture) at) e in
     by_rest (rest_at (length capture) at)
     (λ k. rw (next_unfinished capture at p.1 k) (omega (arith, after_few (length capture) at k)))
     (λ k.

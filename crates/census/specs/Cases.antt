@@ -1,6 +1,8 @@
 -- Worked cases: a frame of each class, captures by their bytes, and a reader's places. Proved in proofs/: Cases.
 -- Assumes nothing.
-use Rattle.std.specs.Prelude.{◌≡◌, ℕ, List, [], ◌∷◌, ◌++◌, map as each, take, drop, replicate}
+use Rattle.std.specs.Prelude.{◌≡◌, ℕ, List, [], ◌∷◌, ◌++◌, map as each, take, drop, replicate, Result, Ok, Err}
+use Rattle.refusals.specs.declared.refusal.Refusal.{Refusal}
+use Rattle.refusals.specs.declared.refusal.Refusal.TheVariants.{BrokenRecord}
 use Rattle.entries.specs.declared.entry.Entry.{Entry}
 use Rattle.census.specs.Class.{frame_class}
 use Rattle.census.specs.Census.{nothing, census_of, added_to}
@@ -30,23 +32,29 @@ power_on = 1 ∷ 2 ∷ 3 ∷ 4 ∷ 1 ∷ 0xFF ∷ 0xFF ∷ 0xFF ∷ []
 abbrev unknown : List ℕ
 unknown = 0 ∷ 0 ∷ 0 ∷ 9 ∷ 2 ∷ 0x0B ∷ 0xFE ∷ 0x15 ∷ []
 
--- so many commands to a short address and power-on records, and the number
-abbrev shorts : ℕ → ℕ → ℕ → Census
-shorts n on number = record { counts = n ∷ replicate 14 0; power_ons = on; number = number }
+-- so many commands to a short address and power-on records, and whether 13 ended the count
+abbrev shorts : ℕ → ℕ → Result Unit Refusal → Census
+shorts n on end = record { counts = n ∷ replicate 14 0; power_ons = on; end = end }
+
+abbrev read : Result Unit Refusal
+read = Ok tt
+
+abbrev broken : Result Unit Refusal
+broken = Err BrokenRecord
 
 pub record CensusCases : Type 0 where
   pub classes : each frame_class one_of_each ≡ 0 ∷ 1 ∷ 2 ∷ 3 ∷ 4 ∷ 5 ∷ 6 ∷ 7 ∷ 8 ∷ 9 ∷ 10 ∷ 11 ∷ 12 ∷ 13 ∷ 14 ∷ []
   pub instances : each frame_class reserved_instances ≡ 6 ∷ 6 ∷ 6 ∷ 6 ∷ 5 ∷ []
   pub no_frame : frame_class 16777216 ≡ 15
   pub empty : census_of [] ≡ nothing
-  pub whole : census_of (enable ++ power_on ++ enable) ≡ shorts 2 1 0
-  pub unknown_first : census_of (unknown ++ enable) ≡ shorts 0 0 13
-  pub unknown_between : census_of (enable ++ power_on ++ unknown ++ enable ++ power_on) ≡ shorts 1 1 13
-  pub unfinished : census_of (enable ++ power_on ++ take 7 enable) ≡ shorts 1 1 13
-  pub one_byte : census_of (0 ∷ []) ≡ shorts 0 0 13
+  pub whole : census_of (enable ++ power_on ++ enable) ≡ shorts 2 1 read
+  pub unknown_first : census_of (unknown ++ enable) ≡ shorts 0 0 broken
+  pub unknown_between : census_of (enable ++ power_on ++ unknown ++ enable ++ power_on) ≡ shorts 1 1 broken
+  pub unfinished : census_of (enable ++ power_on ++ take 7 enable) ≡ shorts 1 1 broken
+  pub one_byte : census_of (0 ∷ []) ≡ shorts 0 0 broken
   -- from a place on; a place within a record begins another one there
-  pub from_second : census_of (drop 8 (enable ++ power_on ++ enable)) ≡ shorts 1 1 0
-  pub from_within : census_of (drop 9 (enable ++ power_on ++ enable)) ≡ shorts 0 0 13
+  pub from_second : census_of (drop 8 (enable ++ power_on ++ enable)) ≡ shorts 1 1 read
+  pub from_within : census_of (drop 9 (enable ++ power_on ++ enable)) ≡ shorts 0 0 broken
   -- added to what stands there; the sixteenth is that of the power-on records
   pub added :
       added_to (5 ∷ replicate 14 1 ++ 18446744073709551615 ∷ []) (census_of (enable ++ power_on ++ enable))

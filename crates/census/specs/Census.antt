@@ -1,7 +1,9 @@
 -- What a capture of trace records holds: its records, counted by class. Paper 02, Item 7; paper 01, "The trace program".
 -- Assumes nothing.
-use Rattle.std.specs.Prelude.{◌≡◌, ℕ, ◌+◌, ◌%◌, ◌^◌, ◌<◌, List, [], ◌∷◌, ◌++◌, length, replicate, ◌==◌, nat_lt, slice_index, slice_set, if◌then◌else◌}
+use Rattle.std.specs.Prelude.{◌≡◌, ℕ, ◌+◌, ◌%◌, ◌^◌, ◌<◌, List, [], ◌∷◌, ◌++◌, length, replicate, ◌==◌, nat_lt, slice_index, slice_set, if◌then◌else◌, Ok, Err}
 use Rattle.laws.specs.Lists.{items}
+use Rattle.refusals.specs.Numbers.{number_in}
+use Rattle.refusals.specs.declared.refusal.Refusal.TheVariants.{BrokenRecord}
 use Rattle.entries.specs.Entry.{whole_entries}
 use Rattle.entries.specs.declared.entry.Entry.{Entry}
 use Rattle.census.specs.Class.{frame_class}
@@ -9,7 +11,11 @@ use Rattle.census.specs.declared.counts.Census.{Census}
 
 -- none of the 15 classes, and no power-on record
 abbrev pub nothing : Census
-nothing = record { counts = replicate 15 0; power_ons = 0; number = 0 }
+nothing = record { counts = replicate 15 0; power_ons = 0; end = Ok tt }
+
+-- 13 where a record ended the count, and else 0
+abbrev pub end_number : Census → ℕ
+end_number c = number_in c.end
 
 -- what the numbers of a list add up to
 abbrev pub sum : List ℕ → ℕ
@@ -30,15 +36,15 @@ one_more k counts = slice_set counts k (slice_index counts k + 1)
 
 -- a frame record, in the class of its frame; its clock is ignored
 abbrev pub with_frame : Census → ℕ → Census
-with_frame c frame = record { counts = one_more (frame_class frame) c.counts; power_ons = c.power_ons; number = c.number }
+with_frame c frame = record { counts = one_more (frame_class frame) c.counts; power_ons = c.power_ons; end = c.end }
 
 -- "power-on records are counted apart"
 abbrev pub with_power_on : Census → Census
-with_power_on c = record { counts = c.counts; power_ons = c.power_ons + 1; number = c.number }
+with_power_on c = record { counts = c.counts; power_ons = c.power_ons + 1; end = c.end }
 
 -- "number 13 ends the count and is counted nowhere; the counts so far stand"
 abbrev pub ended : Census → Census
-ended c = record { counts = c.counts; power_ons = c.power_ons; number = 13 }
+ended c = record { counts = c.counts; power_ons = c.power_ons; end = Err BrokenRecord }
 
 -- one record more
 abbrev pub counted : Census → Entry → Census
@@ -49,7 +55,7 @@ counted c Entry.Broken = ended c
 -- records, one after the other; where a number has ended the count, no further one
 unfoldable pub counted_all : Census → List Entry → Census
 counted_all c [] = c
-counted_all c (e ∷ es) = if c.number == 0 then counted_all (counted c e) es else c
+counted_all c (e ∷ es) = if end_number c == 0 then counted_all (counted c e) es else c
 
 -- an unfinished record behind the whole ones: 13, as one of unknown kind
 unfoldable pub unfinished : ℕ → List Entry

@@ -1,11 +1,12 @@
 -- The class of a frame, 0 to 14, in the order in which they are counted. Paper 02, Item 7: "how many commands by address kind,
 -- events by scheme, power cycles, reserved and malformed frames".
 -- Assumes nothing.
-use Rattle.std.specs.Prelude.{ℕ, ◌==◌, if◌then◌else◌}
+use Rattle.std.specs.Prelude.{ℕ, ◌==◌, if◌then◌else◌, Result, Ok, Err}
+use Rattle.refusals.specs.Numbers.{number_of}
+use Rattle.refusals.specs.declared.refusal.Refusal.{Refusal}
 use Rattle.frames.specs.Read.{read_of}
 use Rattle.frames.specs.declared.message.Address.{Address}
 use Rattle.frames.specs.declared.message.Message.{Message}
-use Rattle.frames.specs.declared.message.Reading.{Reading}
 use Rattle.frames.specs.declared.message.Scheme.{Scheme}
 
 -- 0 short, 1 group, 2 unaddressed, 3 broadcast
@@ -39,10 +40,15 @@ refused_class n =
     else if n == 5 then 13
     else 15
 
-abbrev pub class_of : Reading → ℕ
-class_of (Reading.Got m) = message_class m
-class_of (Reading.Refused n) = refused_class n
+-- a refusal by its number
+abbrev pub class_of : Result Message ℕ → ℕ
+class_of (Ok m) = message_class m
+class_of (Err n) = refused_class n
+
+abbrev pub numbered : Result Message Refusal → Result Message ℕ
+numbered (Ok m) = Ok m
+numbered (Err e) = Err (number_of e)
 
 -- the class of a frame
 unfoldable pub frame_class : ℕ → ℕ
-frame_class f = class_of (read_of f)
+frame_class f = class_of (numbered (read_of f))

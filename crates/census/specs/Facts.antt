@@ -7,7 +7,7 @@ use Rattle.entries.specs.Entry.{is_broken}
 use Rattle.entries.specs.Promises.{is_whole}
 use Rattle.entries.specs.declared.entry.Entry.{Entry}
 use Rattle.census.specs.Class.{frame_class}
-use Rattle.census.specs.Census.{nothing, sum, ended, entries_of, census_of, added_to}
+use Rattle.census.specs.Census.{nothing, sum, ended, entries_of, census_of, added_to, end_number}
 use Rattle.census.specs.declared.counts.Census.{Census}
 
 -- ---- which records are counted, and where
@@ -74,26 +74,26 @@ pub record NumberExactly (capture : List ℕ) (number : ℕ) : Type 0 where
       (number ≡ 0) ↔ ((length capture % 8 ≡ 0) × ((i : ℕ) → i < length capture / 8 → kind_at capture i ≤ 1))
 
 abbrev pub NumberIs : Type 0
-NumberIs = (capture : List ℕ) → NumberExactly capture (census_of capture).number
+NumberIs = (capture : List ℕ) → NumberExactly capture (end_number (census_of capture))
 
 -- "number 13 ends the count and is counted nowhere; the counts so far stand": a record of unknown kind, with anything behind it
 abbrev pub UnknownEnds : Type 0
 UnknownEnds =
-    (before one after : List ℕ) → length before % 8 ≡ 0 → (census_of before).number ≡ 0
+    (before one after : List ℕ) → length before % 8 ≡ 0 → end_number (census_of before) ≡ 0
     → length one ≡ 8 → 1 < slice_index one 4
     → census_of (before ++ one ++ after) ≡ ended (census_of before)
 
 -- an unfinished record, whatever its bytes
 abbrev pub UnfinishedEnds : Type 0
 UnfinishedEnds =
-    (before tail : List ℕ) → length before % 8 ≡ 0 → (census_of before).number ≡ 0
+    (before tail : List ℕ) → length before % 8 ≡ 0 → end_number (census_of before) ≡ 0
     → 0 < length tail → length tail < 8
     → census_of (before ++ tail) ≡ ended (census_of before)
 
 -- where 13 has ended the count among whole records, nothing behind them is read
 abbrev pub NothingAfter : Type 0
 NothingAfter =
-    (before after : List ℕ) → length before % 8 ≡ 0 → (census_of before).number ≡ 13
+    (before after : List ℕ) → length before % 8 ≡ 0 → end_number (census_of before) ≡ 13
     → census_of (before ++ after) ≡ census_of before
 
 -- at the end of a capture, or past it, nothing is counted, and that is no fault; so of an empty one
@@ -108,13 +108,13 @@ plus c d =
     record {
       counts = items (λ k. slice_index c.counts k + slice_index d.counts k) 0 15;
       power_ons = c.power_ons + d.power_ons;
-      number = d.number;
+      end = d.end;
     }
 
 -- slices, one after the other; where a number has ended the count, no further one
 abbrev pub added_up : Census → List (List ℕ) → Census
 added_up c [] = c
-added_up c (s ∷ ss) = if c.number == 0 then added_up (plus c (census_of s)) ss else c
+added_up c (s ∷ ss) = if end_number c == 0 then added_up (plus c (census_of s)) ss else c
 
 abbrev pub joined : List (List ℕ) → List ℕ
 joined [] = []
@@ -129,7 +129,7 @@ SlicesAddUp =
 -- and so do the counts that a call adds to, modulo 2^64
 abbrev pub SlicesAddTo : Type 0
 SlicesAddTo =
-    (before a b : List ℕ) → length a % 8 ≡ 0 → (census_of a).number ≡ 0
+    (before a b : List ℕ) → length a % 8 ≡ 0 → end_number (census_of a) ≡ 0
     → added_to (added_to before (census_of a)) (census_of b) ≡ added_to before (census_of (a ++ b))
 
 -- ---- clocks

@@ -1,9 +1,9 @@
 -- How many of all 16,777,216 frames there are of each class. Paper 02, Item 7. Proved in proofs/: Figures and AllFrames.
 -- Assumes nothing.
-use Rattle.std.specs.Prelude.{◌≡◌, ℕ, ◌/◌, ◌%◌, ◌<◌, List, [], ◌∷◌, ◌++◌, take, nat_eq, slice_index}
+use Rattle.std.specs.Prelude.{◌≡◌, ℕ, ◌/◌, ◌%◌, ◌<◌, List, [], ◌∷◌, ◌++◌, take, nat_eq, slice_index, Ok}
 use Rattle.laws.specs.Counts.{below, count}
 use Rattle.census.specs.Class.{frame_class}
-use Rattle.census.specs.Census.{sum, entries_of, census_of}
+use Rattle.census.specs.Census.{sum, entries_of, census_of, end_number}
 use Rattle.census.specs.Facts.{frame_is}
 
 -- how many of the numbers below n are frames of class k
@@ -30,7 +30,7 @@ pub record FiguresAddUp : Type 0 where
 -- and so of any capture that has each frame once, in any order and with any power-on records between, and nothing that is refused
 abbrev pub CaptureFigures : Type 0
 CaptureFigures =
-    (capture : List ℕ) → (census_of capture).number ≡ 0
+    (capture : List ℕ) → end_number (census_of capture) ≡ 0
     → ((f : ℕ) → f < 16777216 → count (frame_is f) (entries_of capture) ≡ 1)
     → (census_of capture).counts ≡ figures
 
@@ -44,4 +44,4 @@ capture_of (f ∷ fs) = frame_record f ++ capture_of fs
 
 -- so of the capture that has all frames in their order
 abbrev pub AllFrames : Type 0
-AllFrames = census_of (capture_of (below 16777216)) ≡ record { counts = figures; power_ons = 0; number = 0 }
+AllFrames = census_of (capture_of (below 16777216)) ≡ record { counts = figures; power_ons = 0; end = Ok tt }

@@ -1,18 +1,18 @@
 -- What each call promises of its result r, and that two results meeting it are equal. Proved in proofs/: Settled.
 -- Assumes nothing.
-use Rattle.std.specs.Prelude.{◌≡◌, ℕ, ◌<◌, List, drop}
+use Rattle.std.specs.Prelude.{◌≡◌, ℕ, ◌<◌, List, drop, Result}
 use Rattle.std.specs.Borrow.{Bor}
 use Rattle.laws.specs.Settled.{Settles}
-use Rattle.frames.specs.declared.message.Reading.{Reading}
+use Rattle.frames.specs.declared.message.Message.{Message}
 use Rattle.census.specs.Class.{class_of}
-use Rattle.census.specs.Census.{census_of, added_to}
+use Rattle.census.specs.Census.{census_of, added_to, end_number}
 use Rattle.census.specs.Reader.{reader_of, next_of, moved_on, rest_of}
 use Rattle.census.specs.declared.counts.Census.{Census}
 use Rattle.census.specs.declared.next.Next.{Next}
 use Rattle.census.specs.declared.reader.Reader.{Reader}
 
 -- the class; 15 at most, which no frame has
-abbrev pub ClassOfPromise : Reading → ℕ → Type 0
+abbrev pub ClassOfPromise : Result Message ℕ → ℕ → Type 0
 ClassOfPromise reading r = (r ≡ class_of reading) × (r < 16)
 
 -- the records from a place on; at the end, or past it, there are none
@@ -24,7 +24,7 @@ CensusPromise capture r = r ≡ census_of capture
 
 -- the number, and each count added to what stands there
 pub record AddCensusPromise (capture before : List ℕ) (r : ℕ) (after : List ℕ) : Type 0 where
-  pub number : r ≡ (census_of capture).number
+  pub number : r ≡ end_number (census_of capture)
   pub counts : after ≡ added_to before (census_of capture)
 
 abbrev pub NewPromise : Bor (List ℕ) → Reader → Type 0
@@ -48,7 +48,7 @@ abbrev pub AddSettled : Type 0
 AddSettled = (capture before : List ℕ) → SettlesAdded (AddCensusPromise capture before)
 
 pub record CensusSettled : Type 0 where
-  pub class : (reading : Reading) → Settles (ClassOfPromise reading)
+  pub class : (reading : Result Message ℕ) → Settles (ClassOfPromise reading)
   pub count_from : (capture : List ℕ) (at : ℕ) → Settles (CountFromPromise capture at)
   pub census : (capture : List ℕ) → Settles (CensusPromise capture)
   pub new : (capture : Bor (List ℕ)) → Settles (NewPromise capture)

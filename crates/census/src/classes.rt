@@ -3,8 +3,10 @@ ghost use Rattle.std.specs.Prelude.{◌≡◌, ◌<◌};
 ghost use Rattle.census.specs.Class.{address_class, event_class, message_class, refused_class};
 ghost use Rattle.census.specs.Promises.{ClassOfPromise};
 
-use frames::{Address, Message, Reading, Scheme};
+use frames::{Address, Message, Scheme};
 
+// Kept: `small` in four contracts: what may not change: ClassOfPromise has it, and each part gives its own.
+// Kept, beside `words::address_kind`: the new form is no plainer: the class of an address is paper 02's number, its kind paper 01's.
 fn address_class(address: Address) -> usize
     ensures same { result ≡ address_class address }
     ensures small { result < 16 }
@@ -21,13 +23,7 @@ fn event_class(scheme: Scheme) -> usize
     ensures same { result ≡ event_class scheme }
     ensures small { result < 16 }
 {
-    match scheme {
-        Scheme::TypeNumber => 7,
-        Scheme::ShortType => 8,
-        Scheme::ShortNumber => 9,
-        Scheme::GroupType => 10,
-        Scheme::PrimaryType => 11,
-    }
+    7 + scheme as usize
 }
 
 fn message_class(message: Message) -> usize
@@ -42,6 +38,7 @@ fn message_class(message: Message) -> usize
     }
 }
 
+// Kept: a number: what may not change (`census:class_of` has a class for every number that a refused reading holds).
 #[tactic(auto, using(laws::proofs::Tests::tests), unfolding(crate::specs::Class::refused_class))]
 fn refused_class(number: u8) -> usize
     ensures same { result ≡ refused_class number }
@@ -56,11 +53,12 @@ fn refused_class(number: u8) -> usize
     }
 }
 
-pub fn class_of(reading: Reading) -> usize
+// A refusal by its number, any byte: one that no frame is refused with is no frame's class.
+pub fn class_of(reading: Result<Message, u8>) -> usize
     ensures { ClassOfPromise reading result }
 {
     match reading {
-        Reading::Got(message) => message_class(message),
-        Reading::Refused(number) => refused_class(number),
+        Ok(message) => message_class(message),
+        Err(number) => refused_class(number),
     }
 }

@@ -5,13 +5,14 @@ ghost use Rattle.census.specs.Census.{ended as ended_of, counted as countedOf, H
 
 use crate::classes::class_of;
 use entries::Entry;
+use refusals::Refusal;
 
-// How many frame records there are of each class, and power-on records apart. The number is 13 where a record ended the count.
-#[derive(Clone, Copy)]
+// How many frame records there are of each class, power-on records apart, and how the count ended: by 13, or at the capture's end.
+#[derive(Clone, Copy, Debug, PartialEq, Eq)]
 pub struct Census {
     pub counts: [u64; 15],
     pub power_ons: u64,
-    pub number: u8,
+    pub end: Result<(), Refusal>,
 }
 
 pub fn nothing() -> Census
@@ -20,22 +21,21 @@ pub fn nothing() -> Census
     Census {
         counts: [0; 15],
         power_ons: 0,
-        number: 0,
+        end: Ok(()),
     }
 }
 
 // Internal: one more of a class, and every other count as it was. Every count is written anew: measured, that takes less time
 // than to write the one (docs/DECISIONS.md, 95).
+// Kept: by number: tried `array::from_fn`, the proof didn't close (`from_fn-requires`, `returns`).
 #[tactic(auto, using(crate::proofs::Room::one_fits, crate::proofs::Filled::filled_none, crate::proofs::Filled::filled_more, crate::proofs::Filled::filled_all, crate::proofs::Filled::more_is))]
 fn one_more(counts: [u64; 15], class: usize) -> [u64; 15]
     requires { (length counts ≡ 15) × (sum counts < 2 ^ 61) }
     ensures { result ≡ one_more class counts }
 {
-    let mut after: [u64; 15] = [0; 15];
-    let mut k = 0;
-    while k < 15 {
-        after[k] = counts[k] + (class == k) as u64;
-        k += 1;
+    let mut after = [0; 15];
+    for k in 0..15 {
+        after[k] = counts[k] + u64::from(class == k);
     }
     after
 }
@@ -46,13 +46,10 @@ fn with_frame(census: Census, frame: u32) -> Census
     requires { HasRoom census }
     ensures { result ≡ with_frame census frame }
 {
-    let class = class_of(frames::read(frame));
-    let before = census.counts;
-    let counts = one_more(before, class);
+    let reading = frames::read(frame).map_err(Refusal::number);
     Census {
-        counts: counts,
-        power_ons: census.power_ons,
-        number: census.number,
+        counts: one_more(census.counts, class_of(reading)),
+        ..census
     }
 }
 
@@ -61,20 +58,24 @@ fn with_power_on(census: Census) -> Census
     requires { HasRoom census }
     ensures { result ≡ with_power_on census }
 {
-    let mut after = census;
-    after.power_ons = census.power_ons + 1;
-    after
+    Census {
+        power_ons: census.power_ons + 1,
+        ..census
+    }
 }
 
 pub fn ended(census: Census) -> Census
     ensures { result ≡ ended_of census }
 {
-    let mut after = census;
-    after.number = 13;
-    after
+    Census {
+        end: Err(Refusal::BrokenRecord),
+        ..census
+    }
 }
 
 // Internal: one record more.
+// Kept, here and in `with_frame`, `with_power_on` and `count_next`: the new form is no plainer: `HasRoom` is no invariant of a census,
+// for each record takes of the room: only the capture's length bounds it.
 pub fn counted(census: Census, entry: Entry) -> Census
     requires { HasRoom census }
     ensures { result ≡ countedOf census entry }

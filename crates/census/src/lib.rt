@@ -15,4 +15,4 @@ pub use classes::class_of;
 pub use counter::count_from;
 pub use counts::Census;
 pub use next::Next;
-pub use reader::{Reader, entry, moved, new, rest};
+pub use reader::Reader;

@@ -1,13 +1,14 @@
 // What stands at a place of a capture, and the place behind it.
 ghost use Rattle.std.specs.Prelude.{◌≡◌};
 ghost use Rattle.census.specs.Reader.{rest_at, next_at, place_after, goes_on, counted_next};
-ghost use Rattle.census.specs.Census.{HasRoom};
+ghost use Rattle.census.specs.Census.{HasRoom, end_number};
 
 use crate::counts::{Census, counted, ended};
 use entries::{Entry, entry_at};
 
 // A whole record, fewer than 8 bytes, or nothing more.
-#[derive(Clone, Copy)]
+// Kept: the new form, `Option<Result<Entry, Refusal>>`, is no plainer: `census:ReaderReads` says which of the three comes.
+#[derive(Clone, Copy, Debug, PartialEq, Eq)]
 pub enum Next {
     Whole(Entry),
     Unfinished,
@@ -18,38 +19,33 @@ pub enum Next {
 pub fn rest_at(long: usize, at: usize) -> usize
     ensures { result ≡ rest_at long at }
 {
-    if at < long { long - at } else { 0 }
+    long.saturating_sub(at)
 }
 
-#[tactic(auto, using(crate::proofs::Places::nothing_stands, crate::proofs::Places::few_stand, crate::proofs::Places::record_stands))]
+#[tactic(auto, unfolding(crate::specs::Reader::next_at))]
 pub fn next_at(capture: &[u8], at: usize) -> Next
     ensures { result ≡ next_at capture.now at }
 {
-    let long = capture.len();
-    let rest = rest_at(long, at);
-    if rest == 0 {
-        return Next::End;
+    match rest_at(capture.len(), at) {
+        0 => Next::End,
+        1..8 => Next::Unfinished,
+        _ => Next::Whole(entry_at(&capture[at..], 0)),
     }
-    if rest < 8 {
-        return Next::Unfinished;
-    }
-    Next::Whole(entry_at(&capture[at..long], 0))
 }
 
-#[tactic(auto, using(crate::proofs::Places::behind_few, crate::proofs::Places::behind_record))]
+#[tactic(auto, unfolding(crate::specs::Reader::place_after))]
 pub fn place_after(long: usize, at: usize) -> usize
     ensures { result ≡ place_after long at }
 {
-    let rest = rest_at(long, at);
-    if rest < 8 { at + rest } else { at + 8 }
+    at + rest_at(long, at).min(8)
 }
 
 // Whether the count goes on: no number has ended it, and something stands there.
 #[tactic(auto, using(laws::proofs::Tests::tests))]
-pub fn goes_on(number: u8, rest: usize) -> bool
-    ensures { result ≡ goes_on number rest }
+pub fn goes_on(census: Census, rest: usize) -> bool
+    ensures { result ≡ goes_on (end_number census) rest }
 {
-    number == 0 && 0 < rest
+    census.end.is_ok() && 0 < rest
 }
 
 // Internal: what stands there, counted.

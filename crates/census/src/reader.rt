@@ -9,33 +9,35 @@ pub struct Reader<'a> {
     pub at: usize,
 }
 
-// At the capture's begin.
-pub fn new<'a>(capture: &'a [u8]) -> Reader<'a>
-    ensures { NewPromise capture.entry result }
-{
-    Reader { capture, at: 0 }
-}
-
-// What stands at its place.
-pub fn entry<'a>(reader: Reader<'a>) -> Next
-    ensures { EntryPromise reader.entry result }
-{
-    next_at(reader.capture, reader.at)
-}
-
-// Behind what stands at its place.
-pub fn moved<'a>(reader: Reader<'a>) -> Reader<'a>
-    ensures { MovedPromise reader.entry result }
-{
-    Reader {
-        capture: reader.capture,
-        at: place_after(reader.capture.len(), reader.at),
+impl<'a> Reader<'a> {
+    // At the capture's begin.
+    pub fn new(capture: &'a [u8]) -> Reader<'a>
+        ensures { NewPromise capture.entry result }
+    {
+        Reader { capture, at: 0 }
     }
-}
 
-// How many bytes stand from its place on.
-pub fn rest<'a>(reader: Reader<'a>) -> usize
-    ensures { RestPromise reader.entry result }
-{
-    rest_at(reader.capture.len(), reader.at)
+    // What stands at its place.
+    pub fn entry(self) -> Next
+        ensures { EntryPromise self.entry result }
+    {
+        next_at(self.capture, self.at)
+    }
+
+    // Behind what stands at its place.
+    pub fn moved(self) -> Reader<'a>
+        ensures { MovedPromise self.entry result }
+    {
+        Reader {
+            at: place_after(self.capture.len(), self.at),
+            ..self
+        }
+    }
+
+    // How many bytes stand from its place on.
+    pub fn rest(self) -> usize
+        ensures { RestPromise self.entry result }
+    {
+        rest_at(self.capture.len(), self.at)
+    }
 }

@@ -96,7 +96,7 @@ use Rattle.packing.proofs.Round.{state_back, bytes_back}
 use Rattle.packing.proofs.Cases.{cases as packing-cases}
 use Rattle.packing.proofs.Settled.{settled}
 use Rattle.faces.proofs.Settled.{settled as faces_settled}
-use Rattle.faces.proofs.Words.{replies_back, looks_back, writings_back}
+use Rattle.faces.proofs.Words.{replies_back, looks_back, writings_back, three_parts_back, two_parts_back}
 use Rattle.faces.proofs.LowByte.{low_byte as faces-low-byte}
 use Rattle.faces.proofs.Numbers.{faces_numbered, faces_refused}
 use Rattle.faces.proofs.NoByte.{faces_not_cut}
@@ -379,6 +379,8 @@ c_library = record {
   replies_come_back = replies_back;
   looks_come_back = looks_back;
   writings_come_back = writings_back;
+  three_parts_come_back = three_parts_back;
+  two_parts_come_back = two_parts_back;
   answers_low_byte = faces-low-byte;
   faces_numbered = faces_numbered;
   faces_not_cut = faces_not_cut;

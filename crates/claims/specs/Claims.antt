@@ -75,7 +75,7 @@ use Rattle.tracing.specs.Promises.{CutAnywhere, RunSettled, WhoSettled, FilesSet
 use Rattle.tracing.specs.Reads.{ReadAnyhow, GoOnReads, ClosedByFlag, GoOnSettled}
 use Rattle.packing.specs.Promises.{StateBack, BytesBack, Settled}
 use Rattle.packing.specs.Cases.{Cases as PackingCases}
-use Rattle.faces.specs.Promises.{Settled as FacesSettled, RepliesBack, LooksBack, WritingsBack}
+use Rattle.faces.specs.Promises.{Settled as FacesSettled, RepliesBack, LooksBack, WritingsBack, ThreePartsBack, TwoPartsBack}
 use Rattle.faces.specs.Promises.{LowByte as FacesLowByte, FacesNumbered, FacesNotCut, FacesRefused}
 use Rattle.faces.specs.Cases.{Cases as FacesCases}
 use Rattle.lifted.specs.Promises.{DemandInC, ReadOnlyStayInC, FollowsUnit, AcceptsAsUnit, RunEach, RecordsFit}
@@ -575,6 +575,10 @@ pub record CLibrary : Type 0 where
   pub looks_come_back : LooksBack
   -- and of a written frame's
   pub writings_come_back : WritingsBack
+  -- and of any three bare numbers put in one so, whether an answer holds them or not
+  pub three_parts_come_back : ThreePartsBack
+  -- and of any two
+  pub two_parts_come_back : TwoPartsBack
   -- the low byte of every answer but a run's is the number
   pub answers_low_byte : FacesLowByte
   -- numbers exactly if

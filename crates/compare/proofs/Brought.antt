@@ -20,10 +20,10 @@ use Rattle.banks.specs.Facts.{Apart, PutLeaves}
 use Rattle.banks.proofs.ForHistory.{length_value}
 use Rattle.banks.proofs.Places.{placed_ordered, member_inside, members_apart}
 use Rattle.banks.proofs.Values.{value_put}
-use Rattle.compare.specs.Compare.{differs, differing, compare_number, output_of, InBoth}
+use Rattle.compare.specs.Compare.{differs, differing, compare_number, output_of}
 use Rattle.compare.specs.Carry.{differences, old_bytes, new_bytes, put_beginning, carried, carried_all, BroughtTo}
 use Rattle.compare.specs.Promises.{Difference, NewFromOld, OldFromNew}
-use Rattle.compare.proofs.Listed.{bytes, of_map}
+use Rattle.compare.proofs.Listed.{InBoth, bytes, of_map}
 use Rattle.compare.proofs.Numbered.{accepted}
 use Rattle.compare.proofs.Shown.{is_different, not_different, values_listed, shows, difference, first_of, behind_first}
 use Rattle.compare.proofs.Shown.{all_in_both, written, both}

@@ -4,19 +4,18 @@ use Prim.Native.Nat.{ℕ, zero, suc, ◌+◌, ◌-◌, ◌*◌, ◌/◌, ◌≤�
 use mathlib.Core.Path.{◌≡◌, refl, ap, sym, ◌∙◌}
 use mathlib.Core.Bool.{Bool, true, false, not, false≢true}
 use mathlib.Core.List.Memᴰ
-use mathlib.Core.List.{List, [], ◌∷◌, ◌++◌, Memᴰ}
+use mathlib.Core.List.{List, [], ◌∷◌, ◌++◌, map as each, Memᴰ}
 use native.Mathlib.Omega.{arith}
 use native.Mathlib.Nat.{zero-add}
-use mir.Val.{bool_byte}
 use lib.ListN.{length, replicate, length-append, length-replicate}
 use Rattle.std.specs.Prelude.{if◌then◌else◌}
 use Rattle.laws.specs.Lists.{items}
-use Rattle.laws.specs.Counts.{below}
-use Rattle.laws.proofs.Items.{items_start, items_end, items_cons}
+use Rattle.laws.specs.Counts.{below, count}
+use Rattle.laws.proofs.Copies.{lent}
 use Rattle.laws.proofs.Members.{items_member}
 use Rattle.laws.proofs.Sides.{failed, passed}
 use Rattle.laws.proofs.Tests.{if_by}
-use Rattle.records.specs.Map.{record_at}
+use Rattle.records.specs.Map.{record_at, records_of, places_end}
 use Rattle.records.specs.Facts.{Member}
 use Rattle.records.specs.declared.record.Record.{Record}
 use Rattle.records.proofs.Members.{member_fields}
@@ -24,9 +23,16 @@ use Rattle.records.proofs.Walk.{member}
 use Rattle.banks.specs.Values.{value_of, padded}
 use Rattle.banks.proofs.ForHistory.{length_value}
 use Rattle.banks.proofs.Places.{placed_ordered, member_inside}
-use Rattle.compare.specs.Compare.{differs, those, differing, difference_of, joined, list_of, BothPlaced, InBoth, difference_if}
+use Rattle.compare.proofs.Same.{same_is}
+use Rattle.compare.specs.Compare.{differs, those, differing, difference_of, joined, list_of, BothPlaced, difference_if}
 
 -- ---- one value
+
+-- the value's place lies in both stores, and it has at most 8 bytes
+pub record InBoth (r : Record) (old new : List ℕ) : Type 0 where
+  pub in_old : places_end r ≤ length old
+  pub in_new : places_end r ≤ length new
+  pub narrow : r.width ≤ 8
 
 -- a record of the map
 pub in_both : (map old new : List ℕ) → BothPlaced map old new → (r : Record) → Member r map → InBoth r old new
@@ -69,6 +75,11 @@ module _ (old new : List ℕ) (r : Record) {b : Bool} (e : b ≡ differs old new
   pub is_not_listed : not b ≡ true → difference_if old new r ≡ []
   unfolding difference_if
   is_not_listed t = rw (failed e t)
+
+-- of a value of the map: what its comparison rests on, and what is written for it
+pub ruleset compared = (lent, same_is, in_both)
+
+pub ruleset one_value = (in_both, is_listed, is_not_listed, length_difference)
 
 -- ---- all values
 
@@ -113,32 +124,23 @@ to_those f (j ∷ l) i m t = go (λ k. to_those f l i k t) (f j) refl m
     go behind false q (Memᴰ.head e) = absurd (false≢true (sym q ∙ ap f (sym e) ∙ t))
     go behind false q (Memᴰ.tail k) = behind k
 
--- a test as a number is 0 or 1
-pub bool_byte_lem : (b : Bool) → bool_byte b ≤ 1
-bool_byte_lem true = omega arith
-bool_byte_lem false = omega arith
+-- the records of a map are those at the positions below their number
+pub items_each : (item : ℕ → Record) (i n : ℕ) → items item i n ≡ each item (items (λ i. i) i n)
+items_each item i zero = refl
+items_each item i (suc n) = ap (λ (l : List Record). item i ∷ l) (items_each item (suc i) n)
+
+-- what is written for some records
+abbrev pub written : List ℕ → List ℕ → List Record → List ℕ
+written old new [] = []
+written old new (r ∷ rs) = difference_if old new r ++ written old new rs
 
 module _ (map old new : List ℕ) where
   abbrev listed : ℕ → Bool
   listed i = differs old new (record_at map i)
 
-  -- of n positions the listed ones from number i on
-  abbrev pub rest : ℕ → ℕ → List ℕ
-  rest n i = those listed (items (λ i. i) i (n - i))
-
-  -- and what is written for positions
+  -- what is written for positions
   abbrev pub bytes : List ℕ → List ℕ
   bytes l = joined (λ i. difference_of old new (record_at map i)) l
-
-  pub rest_start : (n : ℕ) → n ≡ length map / 8 → differing map old new ≡ rest n 0
-  unfolding differing
-  rest_start n e = ap (λ (k : ℕ). those listed (below k)) (sym e) ∙ ap (those listed) (items_start (λ i. i) n)
-
-  pub rest_end : (n i : ℕ) → n ≤ i → rest n i ≡ []
-  rest_end n i h = ap (those listed) (items_end (λ i. i) i n h)
-
-  rest_next : (n i : ℕ) → i < n → rest n i ≡ (if listed i then i ∷ rest n (i + 1) else rest n (i + 1))
-  rest_next n i h = ap (those listed) (items_cons (λ i. i) i n h i refl)
 
   length_rest : (l : List ℕ) → length (those listed l) ≤ length l
   length_rest [] = omega arith
@@ -150,33 +152,6 @@ module _ (map old new : List ℕ) where
   pub length_differing : length (differing map old new) ≤ length map / 8
   unfolding differing
   length_differing = omega (arith, length_rest (below (length map / 8)), length_items (λ (i : ℕ). i) 0 (length map / 8))
-
-  -- a turn: one more record is counted, or not
-  pub counted_more : (n i : ℕ) → i < n → (r : Record) → r ≡ record_at map i → (b : Bool) → b ≡ differs old new r
-      → length (rest n i) ≡ bool_byte b + length (rest n (i + 1))
-  counted_more n i h r e b t =
-      ap length (rest_next n i h)
-      ∙ ap (λ (x : Record). length (if differs old new x then i ∷ rest n (i + 1) else rest n (i + 1))) (sym e)
-      ∙ ap (λ (x : Bool). length (if x then i ∷ rest n (i + 1) else rest n (i + 1))) (sym t)
-      ∙ go b
-    where
-      go : (b : Bool) → length (if b then i ∷ rest n (i + 1) else rest n (i + 1)) ≡ bool_byte b + length (rest n (i + 1))
-      go true = omega arith
-      go false = omega arith
-
-  -- a turn: what is written for one more record
-  pub bytes_next : (n i : ℕ) → i < n → (r : Record) → r ≡ record_at map i
-      → bytes (rest n i) ≡ difference_if old new r ++ bytes (rest n (i + 1))
-  unfolding difference_if
-  bytes_next n i h r e =
-      ap bytes (rest_next n i h)
-      ∙ ap (λ (x : Record). bytes (if differs old new x then i ∷ rest n (i + 1) else rest n (i + 1))) (sym e)
-      ∙ go (differs old new r)
-    where
-      go : (b : Bool) → bytes (if b then i ∷ rest n (i + 1) else rest n (i + 1))
-          ≡ (if b then difference_of old new r else []) ++ bytes (rest n (i + 1))
-      go true = ap (λ (x : Record). difference_of old new x ++ bytes (rest n (i + 1))) (sym e)
-      go false = refl
 
   -- a listed position is that of a record of the map
   pub listed_is : (i : ℕ) → Memᴰ i (differing map old new) → (i < length map / 8) × (listed i ≡ true)
@@ -204,6 +179,35 @@ module _ (map old new : List ℕ) where
   unfolding list_of
   length_list p = length_bytes (differing map old new) (λ i m. in_both map old new p (record_at map i) (of_map i m))
 
-  pub list_start : (n : ℕ) → n ≡ length map / 8 → list_of map old new ≡ bytes (rest n 0)
-  unfolding list_of
-  list_start n e = ap bytes (rest_start n e)
+  -- the same of the records themselves, one after the other: how many differ
+  count_each : (l : List ℕ) → length (those listed l) ≡ count (differs old new) (each (record_at map) l)
+  count_each [] = refl
+  count_each (i ∷ l) = go (count_each l) (listed i)
+    where
+      go : length (those listed l) ≡ count (differs old new) (each (record_at map) l) → (b : Bool)
+          → length (if b then i ∷ those listed l else those listed l)
+          ≡ (if b then suc (count (differs old new) (each (record_at map) l)) else count (differs old new) (each (record_at map) l))
+      go behind true = ap suc behind
+      go behind false = behind
+
+  pub counted_all : length (differing map old new) ≡ count (differs old new) (records_of map)
+  unfolding differing records_of
+  counted_all =
+      count_each (below (length map / 8)) ∙ ap (count (differs old new)) (sym (items_each (record_at map) 0 (length map / 8)))
+
+  -- and what is written for them
+  written_each : (l : List ℕ) → bytes (those listed l) ≡ written old new (each (record_at map) l)
+  unfolding difference_if
+  written_each [] = refl
+  written_each (i ∷ l) = go (written_each l) (listed i)
+    where
+      go : bytes (those listed l) ≡ written old new (each (record_at map) l) → (b : Bool)
+          → bytes (if b then i ∷ those listed l else those listed l)
+          ≡ (if b then difference_of old new (record_at map i) else []) ++ written old new (each (record_at map) l)
+      go behind true = ap (λ (w : List ℕ). difference_of old new (record_at map i) ++ w) behind
+      go behind false = behind
+
+  pub written_all : list_of map old new ≡ written old new (records_of map)
+  unfolding list_of differing records_of
+  written_all =
+      written_each (below (length map / 8)) ∙ ap (written old new) (sym (items_each (record_at map) 0 (length map / 8)))

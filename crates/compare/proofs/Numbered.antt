@@ -1,14 +1,18 @@
 -- The number of a comparison: the first store's, the second's, then 15; and what each return of the code has to show.
 -- Assumes nothing.
 use Prim.Native.Nat.{ℕ, zero, suc, ◌*◌, ◌≤◌, ◌<◌}
-use mathlib.Core.Path.{◌≡◌, refl, sym, ◌∙◌}
+use mathlib.Core.Path.{◌≡◌, refl, ap, sym, ◌∙◌}
 use mathlib.Core.Logic.{⊎_elim}
 use mathlib.Core.Bool.{true}
 use mathlib.Core.List.{List}
 use native.Mathlib.Omega.{arith}
 use borrow.Author.Tests.{ne_eqb, leb-true, leb-false}
 use lib.ListN.{length}
-use Rattle.std.specs.Prelude.{if◌then◌else◌}
+use Rattle.std.specs.Prelude.{if◌then◌else◌, Result, Ok, Err}
+use Rattle.refusals.specs.Numbers.{number_of, refusal_of}
+use Rattle.refusals.specs.declared.refusal.Refusal.{Refusal}
+use Rattle.refusals.proofs.Among.{number_among}
+use Rattle.refusals.proofs.Told.{refusal_is, not_none}
 use Rattle.laws.specs.Numbers.{first_failing}
 use Rattle.laws.proofs.Bits.{bits_is}
 use Rattle.laws.proofs.Joined.{joined_none, joined_some}
@@ -22,12 +26,11 @@ use Rattle.banks.specs.Rules.{places_hold, placed, head_bytes_hold, place_tests,
 use Rattle.banks.specs.Facts.{Stands}
 use Rattle.banks.proofs.Places.{placed_ordered}
 use Rattle.banks.proofs.Standing.{stands, is_standing, bank_last}
-use Rattle.compare.specs.Compare.{differing, both_tests, has_room, room_tests, compare_tests, compare_number, refused_compare, compare_of}
+use Rattle.compare.specs.Compare.{differing, both_tests, has_room, room_tests, compare_tests, compare_number, compare_of, count_in}
 use Rattle.compare.specs.Compare.{list_of, listed_over, output_of, compare_word, BothPlaced}
 use Rattle.compare.specs.Promises.{CompareNumbers, CompareStands, SecondGives11, CompareRefuses, CompareMost}
 use Rattle.compare.specs.Promises.{CompareShows, CompareAlone, ComparePromise}
 use Rattle.compare.specs.Promises.{Compares, SettlesCompared, CompareSettled, CompareWordSettled}
-use Rattle.compare.specs.declared.compared.Compared.{Compared}
 use Rattle.compare.proofs.Listed.{length_differing}
 
 module _ (map old new : List ℕ) where
@@ -67,13 +70,6 @@ module _ (map old new : List ℕ) where
   at_most_64 p =
       let size = size_most (length map) (ordered_size map (placed_ordered map (length old) p.0)) in
       let few = length_differing map old new in
-      omega arith
-
-  -- so the count is small, where the code has seen that both pass
-  pub few : (n count : ℕ) → n ≡ first_failing (both_tests map old new) → n ≡ 0 → count ≡ length (differing map old new)
-      → count ≤ 64
-  few n count e z q =
-      let most = at_most_64 (zero_both_placed (sym e ∙ z)) in
       omega arith
 
   module _ (room : ℕ) where
@@ -135,15 +131,17 @@ module _ (map old new : List ℕ) where
 
   -- what a return has to show
   module _ (before : List ℕ) where
-    pub refuses : (n : ℕ) → (n ≡ 0 → ⊥) → compare_number map old new (length before) ≡ n
-        → (r : Compared) → r ≡ refused_compare n → ComparePromise map old new before r before
+    pub refuses : (e : Refusal) → compare_number map old new (length before) ≡ number_of e
+        → ComparePromise map old new before (Err e) before
     unfolding compare_of output_of
-    refuses n h e r q = record { answers = rw (e, ne_eqb n 0 h) q; leaves = rw (e, ne_eqb n 0 h) }
+    refuses e q =
+        let some = ne_eqb (compare_number map old new (length before)) 0 (not_none e _ (sym q)) in
+        record { answers = rw some (ap Err (refusal_is e _ (sym q))); leaves = rw some }
 
     pub lists : compare_number map old new (length before) ≡ 0
         → (count : ℕ) → count ≡ length (differing map old new)
         → (output : List ℕ) → output ≡ listed_over (list_of map old new) before
-        → ComparePromise map old new before (record { number = 0; count = count }) output
+        → ComparePromise map old new before (Ok count) output
     unfolding compare_of output_of
     lists e count q output w = record { answers = rw (e, q); leaves = rw e w }
 
@@ -166,16 +164,23 @@ second_gives_11 map old new e n h =
       λ q. is ∙ rw q.1 (sym q.0),
     )
 
+-- a number that is not 0 is the refusal's
+told : (map old new : List ℕ) (room : ℕ) → (compare_number map old new room ≡ 0 → ⊥)
+    → number_of (refusal_of (compare_number map old new room)) ≡ compare_number map old new room
+unfolding compare_number
+told map old new room h = number_among (compare_tests map old new room) refl _ refl h
+
 pub compare_refuses : CompareRefuses
 unfolding compare_of output_of
 compare_refuses map old new before h =
-    let some = ne_eqb (compare_number map old new (length before)) 0 (λ z. absurd (omega arith)) in
-    (rw some, rw some)
+    let k : compare_number map old new (length before) ≡ 0 → ⊥ = λ z. absurd (omega arith) in
+    let some = ne_eqb (compare_number map old new (length before)) 0 k in
+    (rw some (told map old new (length before) k), rw some, rw some)
 
 pub compare_most : CompareMost
 unfolding compare_of
 compare_most map old new room =
-    if_eq (λ (c : Compared). c.count ≤ 64) (compare_number map old new room) 0
+    if_eq (λ (c : Result ℕ Refusal). count_in c ≤ 64) (compare_number map old new room) 0
     (λ e. at_most_64 map old new (both_placed map old new (accepted map old new room e).0))
     (λ n. omega arith)
 
@@ -193,8 +198,8 @@ compare_shows map old new room e =
 pub compare_alone : CompareAlone
 unfolding compare_of compare_word
 compare_alone map old new room h =
-    let some = ne_eqb (compare_number map old new room) 0 (λ z. absurd (omega arith)) in
-    rw some (omega arith)
+    let k : compare_number map old new room ≡ 0 → ⊥ = λ z. absurd (omega arith) in
+    rw (ne_eqb (compare_number map old new room) 0 k, told map old new room k) (omega arith)
 
 settles : {A : Type 0} (answer : A) (written : List ℕ)
     → SettlesCompared (λ (r : A) (output : List ℕ). Compares r output answer written)

@@ -3,7 +3,7 @@
 use Prim.Native.Nat.{ℕ, zero, suc, ◌+◌, ◌-◌, ◌*◌, ◌/◌, ◌≤◌, ◌<◌}
 use mathlib.Core.Path.{◌≡◌, refl, ap, sym, ◌∙◌, subst}
 use mathlib.Core.Bool.{Bool, true, false, not, false≢true}
-use mathlib.Core.List.{List, [], ◌∷◌, ◌++◌, map as each, append-nil, append_assoc}
+use mathlib.Core.List.{List, [], ◌∷◌, ◌++◌, append-nil, append_assoc}
 use mathlib.Core.List.Memᴰ
 use mathlib.Core.List.{Memᴰ}
 use native.Mathlib.Omega.{arith}
@@ -20,10 +20,10 @@ use Rattle.records.specs.declared.record.Record.{Record}
 use Rattle.banks.specs.Values.{value_of, padded}
 use Rattle.banks.proofs.ForHistory.{length_value}
 use Rattle.compare.specs.Compare.{differs, those, differing, difference_of, list_of, listed_over, compare_number, output_of}
-use Rattle.compare.specs.Compare.{BothPlaced, InBoth, same}
+use Rattle.compare.specs.Compare.{BothPlaced, same}
 use Rattle.compare.specs.Promises.{DifferingExactly, ValuesListed, Rises, ListRises, Difference, OutputShows, PastStays}
 use Rattle.compare.proofs.Same.{same_equal, equal_same}
-use Rattle.compare.proofs.Listed.{in_both, length_padded, length_difference, items_is, below_is, of_those, listed_is}
+use Rattle.compare.proofs.Listed.{InBoth, items_each, in_both, length_padded, length_difference, items_is, below_is, of_those, listed_is}
 use Rattle.compare.proofs.Listed.{is_in_list, of_map, bytes, length_list}
 use Rattle.compare.proofs.Numbered.{both_placed, accepted}
 
@@ -54,11 +54,6 @@ differing_exactly map old new i = (
       (x.0, is_different old new (record_at map i) x.1),
   λ x. is_in_list map old new i x.0 (different old new (record_at map i) x.1),
 )
-
--- the records of a map are those at the positions below their number
-items_each : (item : ℕ → Record) (i n : ℕ) → items item i n ≡ each item (items (λ i. i) i n)
-items_each item i zero = refl
-items_each item i (suc n) = ap (λ (l : List Record). item i ∷ l) (items_each item (suc i) n)
 
 numbered : (map : List ℕ) (r : Record) → Member r map → (i : ℕ) × Memᴰ i (below (length map / 8)) × (record_at map i ≡ r)
 unfolding records_of

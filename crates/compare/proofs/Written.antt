@@ -1,31 +1,23 @@
 -- Bytes written into an output, one by one and one part behind the other.
 -- Assumes nothing.
-use Prim.Native.Nat.{ℕ, suc, ◌+◌, ◌≤◌, ◌<◌}
+use Prim.Native.Nat.{ℕ, suc, ◌+◌, ◌-◌, ◌≤◌}
 use mathlib.Core.Path.{◌≡◌, refl, ap, sym, ◌∙◌}
 use mathlib.Core.List.{List, [], ◌∷◌, ◌++◌, append-nil, append_assoc}
 use native.Mathlib.Omega.{arith}
-use native.Mathlib.Numerals.{add-one}
-use native.Mathlib.Nat.{add-zero}
-use lib.ListN.{length, take, drop, set, get_or, length-append, length-drop}
-use lib.Seq.{sets, sets-eq, paste, paste-suc, take-length, take_at, drop_at, length-take-le, drop-drop}
+use native.Mathlib.Nat.{add-zero, add-sub_cancel_left}
+use borrow.Rule.Slice.PartMut.{put_mid}
+use lib.ListN.{length, take, drop, set, length-append, length-drop}
+use lib.Seq.{sets, sets-eq, length-sets, take_at, drop_at, length-take-le, drop-drop}
 use Rattle.laws.specs.Parts.{put}
 use Rattle.compare.specs.Compare.{listed_over}
 
--- bytes written one by one
-module _ (output : List ℕ) (at : ℕ) (bytes : List ℕ) {i : ℕ} {left : List ℕ} where
-  pub paste_more : left ≡ paste output at bytes i → at + i < length output → i < length bytes
-      → set left (at + i) (get_or bytes i 0) ≡ paste output at bytes (i + 1)
-  paste_more e h k =
-      ap (λ (l : List ℕ). set l (at + i) (get_or bytes i 0)) e ∙ paste-suc output at bytes i 0 h k
-      ∙ ap (paste output at bytes) (sym (add-one i))
-
-  pub paste_all : left ≡ paste output at bytes i → i ≡ length bytes → at + length bytes ≤ length output
-      → left ≡ put at bytes output
-  unfolding put
-  paste_all e h k =
-      e ∙ ap (paste output at bytes) h
-      ∙ ap (λ (l : List ℕ). take at output ++ l ++ drop (at + length bytes) output) (take-length bytes)
-      ∙ sym (sets-eq bytes output at k)
+-- bytes copied over a part are put there
+put_copy : (s : List ℕ) (at end : ℕ) (bytes left : List ℕ) → left ≡ bytes → end ≡ at + length bytes → end ≤ length s
+    → put_mid at (end - at) s left ≡ put at bytes s
+unfolding put
+put_copy s at end bytes left e k h =
+    rw (e, k, add-sub_cancel_left at (length bytes), drop-drop (length bytes) at s)
+    (sym (append_assoc (take at s) bytes (drop (at + length bytes) s)) ∙ sym (sets-eq bytes s at (omega arith)))
 
 -- two parts that are put one behind the other are put as one
 pub put_two : (at next : ℕ) (a b s : List ℕ) → next ≡ at + length a → put next b (put at a s) ≡ put at (a ++ b) s
@@ -33,13 +25,18 @@ unfolding put
 put_two at next [] b s e = ap (λ (k : ℕ). sets s k b) (e ∙ add-zero at)
 put_two at next (x ∷ a) b s e = put_two (suc at) next a b (set s at x) (omega arith)
 
--- and three are, the first two of 8 bytes
-pub put_three : (at : ℕ) (a b c s : List ℕ) {x y z : List ℕ} → length a ≡ 8 → length b ≡ 8
-    → x ≡ put at a s → y ≡ put (at + 8) b x → z ≡ put (at + 16) c y
-    → z ≡ put at (a ++ b ++ c) s
-put_three at a b c s {x} {y} h k p q r =
-    r ∙ ap (put (at + 16) c) (q ∙ ap (put (at + 8) b) p ∙ put_two at (at + 8) a b s (omega arith))
-    ∙ put_two at (at + 16) (a ++ b) c s (omega (arith, length-append a b))
+-- and three are, copied over parts of 8 bytes
+pub put_three : (at : ℕ) (a b c s : List ℕ) {l m n : List ℕ} → length a ≡ 8 → length b ≡ 8 → length c ≡ 8 → at + 24 ≤ length s
+    → l ≡ a → m ≡ b → n ≡ c
+    → put_mid (at + 16) (at + 24 - (at + 16)) (put_mid (at + 8) (at + 16 - (at + 8)) (put_mid at (at + 8 - at) s l) m) n
+    ≡ put at (a ++ b ++ c) s
+unfolding put
+put_three at a b c s {l} {m} {n} h k j room p q r =
+    let first = put_copy s at (at + 8) a l p (omega arith) (omega arith) in
+    let second = put_copy (put at a s) (at + 8) (at + 16) b m q (omega arith) (omega (arith, length-sets s at a)) in
+    let third = put_copy (put at (a ++ b) s) (at + 16) (at + 24) c n r (omega arith) (omega (arith, length-sets s at (a ++ b))) in
+    rw (first, second, put_two at (at + 8) a b s (omega arith), third)
+    (put_two at (at + 16) (a ++ b) c s (omega (arith, length-append a b)))
 
 -- a list over what was there, written up to a place, and what is still to come
 pub record Written (list before rest : List ℕ) (at : ℕ) (output : List ℕ) : Type 0 where

@@ -1,13 +1,11 @@
 -- A list put to use: each difference's new bytes onto a store, or its old ones, at the value that it names.
 -- Assumes nothing.
-use Rattle.std.specs.Prelude.{ℕ, zero, suc, ◌≤◌, ◌<◌, ◌≡◌, ◌⊎◌, List, [], ◌∷◌, length, get_or, take, drop}
+use Rattle.std.specs.Prelude.{ℕ, zero, suc, ◌≤◌, ◌<◌, ◌≡◌, ◌⊎◌, List, [], ◌∷◌, length, get_or, take, drop, Option, Some, None}
 use Rattle.laws.specs.Parts.{part}
 use Rattle.records.specs.Map.{records_of, places_end}
 use Rattle.records.specs.Lookup.{beginner}
 use Rattle.records.specs.Facts.{Member}
 use Rattle.records.specs.declared.record.Record.{Record}
-use Rattle.records.specs.declared.holder.Beginning.{Beginning}
-use Rattle.records.specs.declared.holder.Beginning.TheVariants.{Begins, NoValue}
 use Rattle.banks.specs.Values.{value_of, put_value}
 
 -- the first n records of a list, 24 bytes each
@@ -23,9 +21,9 @@ abbrev pub new_bytes : ℕ
 new_bytes = 16
 
 -- bytes, put where a value begins; where none does, the store stays
-unfoldable pub put_beginning : Beginning → List ℕ → List ℕ → List ℕ
-put_beginning (Begins r) bytes store = put_value r bytes store
-put_beginning NoValue bytes store = store
+unfoldable pub put_beginning : Option Record → List ℕ → List ℕ → List ℕ
+put_beginning (Some r) bytes store = put_value r bytes store
+put_beginning None bytes store = store
 
 -- a difference's bytes from a place on, as many as its width says, put at the value of its bank and first location
 unfoldable pub carried : List ℕ → ℕ → List ℕ → List ℕ → List ℕ

@@ -5,7 +5,8 @@ use Rattle.std.specs.Prelude.{◌≡◌, List, [], ◌∷◌, ◌++◌, map, ℕ
 use Rattle.records.specs.Bench.{bench_map, bench_store, bench_image}
 use Rattle.records.specs.Cases.{map_row, head_row, lock_row, with}
 use Rattle.banks.specs.Cases.{store_with}
-use Rattle.compare.specs.Compare.{compare_of, output_of, compare_word}
+use Rattle.compare.specs.Compare.{compare_of, count_in, output_of, compare_word}
+use Rattle.refusals.specs.Numbers.{number_in}
 
 pub record CompareCase : Type 0 where
   pub records : List ℕ
@@ -118,10 +119,10 @@ pub record CompareCases : Type 0 where
   pub bench : output_of bench_map bench_store bench_image (room 24) ≡ bench_difference
   -- each case gets its number and its count
   pub numbers :
-      map (λ c. (compare_of c.records c.old c.new (length c.before)).number) (list_cases ++ refused_cases)
+      map (λ c. number_in (compare_of c.records c.old c.new (length c.before))) (list_cases ++ refused_cases)
       ≡ map (λ c. c.number) (list_cases ++ refused_cases)
   pub counts :
-      map (λ c. (compare_of c.records c.old c.new (length c.before)).count) (list_cases ++ refused_cases)
+      map (λ c. count_in (compare_of c.records c.old c.new (length c.before))) (list_cases ++ refused_cases)
       ≡ map (λ c. c.count) (list_cases ++ refused_cases)
   -- and its output
   pub lists : map (λ c. output_of c.records c.old c.new c.before) list_cases ≡ map (λ c. c.output) list_cases

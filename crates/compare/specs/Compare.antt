@@ -1,14 +1,15 @@
 -- Compare two images: one map, two stores, and a list of the values that differ. Paper 02, Item 1; the numbers 7 to 11 are those of
 -- paper 01.
 -- Assumes nothing.
-use Rattle.std.specs.Prelude.{ℕ, ◌+◌, ◌*◌, ◌^◌, ◌/◌, ◌≤◌, ◌≡◌, Bool, true, false, not, ◌&&◌, List, [], ◌∷◌, ◌++◌, leb, eqb, length, drop, if◌then◌else◌}
+use Rattle.std.specs.Prelude.{ℕ, ◌+◌, ◌*◌, ◌^◌, ◌/◌, ◌≡◌, Bool, true, false, not, ◌&&◌, List, [], ◌∷◌, ◌++◌, leb, eqb, length, drop, if◌then◌else◌, Result, Ok, Err}
 use Rattle.laws.specs.Counts.{below}
 use Rattle.laws.specs.Numbers.{Test, test, first_failing}
-use Rattle.records.specs.Map.{record_at, places_end}
+use Rattle.records.specs.Map.{record_at}
 use Rattle.records.specs.declared.record.Record.{Record}
 use Rattle.banks.specs.Rules.{check_tests, placed}
 use Rattle.banks.specs.Values.{value_of, padded}
-use Rattle.compare.specs.declared.compared.Compared.{Compared}
+use Rattle.refusals.specs.Numbers.{number_in, refusal_of}
+use Rattle.refusals.specs.declared.refusal.Refusal.{Refusal}
 
 -- the same bytes
 abbrev pub same : List ℕ → List ℕ → Bool
@@ -63,15 +64,16 @@ compare_tests map old new room = both_tests map old new ++ room_tests map old ne
 unfoldable pub compare_number : List ℕ → List ℕ → List ℕ → ℕ → ℕ
 compare_number map old new room = first_failing (compare_tests map old new room)
 
--- a refusal has no count
-abbrev pub refused_compare : ℕ → Compared
-refused_compare n = record { number = n; count = 0 }
-
--- number and count: how many values differ
-unfoldable pub compare_of : List ℕ → List ℕ → List ℕ → ℕ → Compared
+-- how many values differ, or the refusal
+unfoldable pub compare_of : List ℕ → List ℕ → List ℕ → ℕ → Result ℕ Refusal
 compare_of map old new room =
-    if eqb (compare_number map old new room) 0 then record { number = 0; count = length (differing map old new) }
-    else refused_compare (compare_number map old new room)
+    if eqb (compare_number map old new room) 0 then Ok (length (differing map old new))
+    else Err (refusal_of (compare_number map old new room))
+
+-- the count; a refusal has none
+abbrev pub count_in : Result ℕ Refusal → ℕ
+count_in (Ok count) = count
+count_in (Err refusal) = 0
 
 -- the list, and bytes past the list stay
 unfoldable pub listed_over : List ℕ → List ℕ → List ℕ
@@ -83,19 +85,13 @@ output_of map old new before =
     if eqb (compare_number map old new (length before)) 0 then listed_over (list_of map old new) before else before
 
 -- as one number: number | count << 8
-unfoldable pub compare_word : Compared → ℕ
-compare_word c = c.number + c.count * 2 ^ 8
+unfoldable pub compare_word : Result ℕ Refusal → ℕ
+compare_word c = number_in c + count_in c * 2 ^ 8
 
 -- Inside the call: what 7 to 11 of the first store give, and what one turn over the map writes.
 
 abbrev pub BothPlaced : List ℕ → List ℕ → List ℕ → Type 0
 BothPlaced map old new = (placed map (length old) ≡ true) × (length new ≡ length old)
-
--- the value's place lies in both stores, and it has at most 8 bytes
-pub record InBoth (r : Record) (old new : List ℕ) : Type 0 where
-  pub in_old : places_end r ≤ length old
-  pub in_new : places_end r ≤ length new
-  pub narrow : r.width ≤ 8
 
 -- the difference of a value that differs; else nothing
 unfoldable pub difference_if : List ℕ → List ℕ → Record → List ℕ

@@ -1,6 +1,6 @@
 -- What is proved of the comparison. The proofs stand in proofs/.
 -- Assumes nothing.
-use Rattle.std.specs.Prelude.{◌≡◌, ◌↔◌, false, ℕ, ◌+◌, ◌-◌, ◌*◌, ◌/◌, ◌≤◌, ◌<◌, length, get_or, replicate}
+use Rattle.std.specs.Prelude.{◌≡◌, ◌↔◌, false, ℕ, ◌+◌, ◌-◌, ◌*◌, ◌/◌, ◌≤◌, ◌<◌, length, get_or, replicate, Result, Ok}
 use mathlib.Core.List.{List, [], ◌∷◌, Memᴰ, map as each}
 use Rattle.laws.specs.Bits.{bits}
 use Rattle.laws.specs.Numbers.{Given}
@@ -11,9 +11,10 @@ use Rattle.records.specs.declared.record.Record.{Record}
 use Rattle.banks.specs.Rules.{head_bytes_hold, check_number}
 use Rattle.banks.specs.Values.{value_of}
 use Rattle.banks.specs.Facts.{Stands}
-use Rattle.compare.specs.Compare.{differing, compare_tests, compare_number, refused_compare, compare_of, output_of, compare_word}
+use Rattle.compare.specs.Compare.{differing, compare_tests, compare_number, compare_of, count_in, output_of, compare_word}
 use Rattle.compare.specs.Carry.{differences, old_bytes, new_bytes, carried_all, BroughtTo}
-use Rattle.compare.specs.declared.compared.Compared.{Compared}
+use Rattle.refusals.specs.Numbers.{number_in}
+use Rattle.refusals.specs.declared.refusal.Refusal.{Refusal}
 
 -- The numbers.
 
@@ -97,12 +98,12 @@ PastStays = (map old new before : List ℕ) → compare_number map old new (leng
 abbrev pub CompareRefuses : Type 0
 CompareRefuses =
     (map old new before : List ℕ) → 0 < compare_number map old new (length before)
-    → (compare_of map old new (length before) ≡ refused_compare (compare_number map old new (length before)))
-    × (output_of map old new before ≡ before)
+    → (number_in (compare_of map old new (length before)) ≡ compare_number map old new (length before))
+    × (count_in (compare_of map old new (length before)) ≡ 0) × (output_of map old new before ≡ before)
 
 -- whatever is handed in, the count is at most 64
 abbrev pub CompareMost : Type 0
-CompareMost = (map old new : List ℕ) (room : ℕ) → (compare_of map old new room).count ≤ 64
+CompareMost = (map old new : List ℕ) (room : ℕ) → count_in (compare_of map old new room) ≤ 64
 
 -- What makes it useful.
 
@@ -123,14 +124,14 @@ OldFromNew =
 -- As one number.
 
 -- number | count << 8: each part stands in its bits
-pub record CompareBack (w : ℕ) (c : Compared) : Type 0 where
-  pub number : bits w 7 0 ≡ c.number
-  pub count : bits w 31 8 ≡ c.count
+pub record CompareBack (w : ℕ) (c : Result ℕ Refusal) : Type 0 where
+  pub number : bits w 7 0 ≡ number_in c
+  pub count : bits w 31 8 ≡ count_in c
 
 abbrev pub CompareShows : Type 0
 CompareShows =
     (map old new : List ℕ) (room : ℕ) → compare_number map old new room ≡ 0
-    → CompareBack (compare_word (compare_of map old new room)) (record { number = 0; count = length (differing map old new) })
+    → CompareBack (compare_word (compare_of map old new room)) (Ok (length (differing map old new)))
 
 -- a refusal is its number alone
 abbrev pub CompareAlone : Type 0
@@ -146,7 +147,7 @@ pub record Compares {A : Type 0} (r : A) (output : List ℕ) (answer : A) (writt
   pub answers : r ≡ answer
   pub leaves : output ≡ written
 
-abbrev pub ComparePromise : List ℕ → List ℕ → List ℕ → List ℕ → Compared → List ℕ → Type 0
+abbrev pub ComparePromise : List ℕ → List ℕ → List ℕ → List ℕ → Result ℕ Refusal → List ℕ → Type 0
 ComparePromise map old new before r output =
     Compares r output (compare_of map old new (length before)) (output_of map old new before)
 

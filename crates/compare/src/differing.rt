@@ -1,51 +1,59 @@
-// Which values differ between two stores, and how many.
-ghost use Rattle.std.specs.Prelude.{◌≡◌, ◌≤◌, length};
-ghost use Rattle.records.specs.Map.{places_end};
-ghost use Rattle.compare.specs.Compare.{same, differs, differing, BothPlaced};
+// Two stores of one map, and which values differ between them.
+ghost use Rattle.std.specs.Prelude.{◌≡◌, IfOk, length};
+ghost use Rattle.laws.specs.Numbers.{first_failing};
+ghost use Rattle.records.specs.Facts.{Member};
+ghost use Rattle.refusals.specs.Numbers.{number_in};
+ghost use Rattle.compare.specs.Compare.{both_tests, differs, differing, BothPlaced};
 
-use records::{Record, places_end, record_at, records};
+use banks::check;
+use records::{Record, records};
+use refusals::Refusal;
 
-// Internal: of two parts of one length.
-#[tactic(auto, using(crate::proofs::Same::same_stops, crate::proofs::Same::same_goes_on, crate::proofs::Same::same_all))]
-fn is_same(old: &[u8], new: &[u8]) -> bool
-    requires { length new.now ≡ length old.now }
-    ensures { result ≡ same old.now new.now }
-{
-    let mut i = 0;
-    while i < old.len() {
-        if old[i] != new[i] {
-            return false;
+// Map and first store have passed 7 to 10, and the second is as long.
+#[derive(Clone, Copy)]
+pub struct Both<'a> {
+    pub map: &'a [u8],
+    pub old: &'a [u8],
+    pub new: &'a [u8],
+    pub ghost placed: { BothPlaced map.now old.now new.now },
+}
+
+impl<'a> Both<'a> {
+    // 7 to 11 for the first store, then for the second, each with the other in the image's place.
+    #[tactic(auto, using(crate::proofs::Numbered::first_refuses, crate::proofs::Numbered::second_says, crate::proofs::Numbered::zero_both_placed))]
+    pub fn new(map: &'a [u8], old: &'a [u8], new: &'a [u8]) -> Result<Both<'a>, Refusal>
+        ensures number { number_in result ≡ first_failing (both_tests map.now old.now new.now) }
+        ensures same { IfOk result (λ both. (both.map.now ≡ map.now) × (both.old.now ≡ old.now) × (both.new.now ≡ new.now)) }
+    {
+        check(map, old, new)?;
+        check(map, new, old)?;
+        Ok(Both { map, old, new })
+    }
+
+    // Internal: a value of the map.
+    // Kept, here and in `listing`: the new form is no plainer: that a record is the map's is asked by a clause: a record is plain bytes.
+    #[tactic(auto, using(crate::proofs::Listed::compared), unfolding(crate::specs::Compare::differs, banks::specs::Values::value_of))]
+    pub fn is_different(self, r: Record) -> bool
+        requires { Member r self.map.now }
+        ensures { result ≡ differs self.entry.old.now self.entry.new.now r }
+    {
+        let at = r.offset as usize;
+        let end = r.places_end();
+        self.old[at..end] != self.new[at..end]
+    }
+
+    // How many values differ.
+    // Kept: a loop that counts; tried `filter(..).count()`, the proof didn't close at `count-requires-clause-can` and `returns`.
+    #[tactic(auto, using(crate::proofs::Listed::counted_all, crate::proofs::Numbered::at_most_64))]
+    pub fn count(self) -> usize
+        ensures { result ≡ length (differing self.entry.map.now self.entry.old.now self.entry.new.now) }
+    {
+        let mut count = 0;
+        for r in records(self.map) {
+            if self.is_different(r) {
+                count += 1;
+            }
         }
-        i += 1;
+        count
     }
-    true
-}
-
-// Internal: the value's place lies in both stores.
-#[tactic(auto, using(laws::proofs::Copies::lent), unfolding(crate::specs::Compare::differs, banks::specs::Values::value_of))]
-pub fn is_different(old: &[u8], new: &[u8], r: Record) -> bool
-    requires { (places_end r ≤ length old.now) × (places_end r ≤ length new.now) }
-    ensures { result ≡ differs old.now new.now r }
-{
-    let at = r.offset as usize;
-    let end = places_end(r);
-    !is_same(&old[at..end], &new[at..end])
-}
-
-// Internal: how many values differ. Map and first store have passed 7 to 10, and the second is as long.
-#[tactic(auto, using(crate::proofs::Listed::rest_start, crate::proofs::Listed::rest_end, crate::proofs::Listed::bool_byte_lem, crate::proofs::Listed::counted_more))]
-pub fn count_differing(map: &[u8], old: &[u8], new: &[u8]) -> usize
-    requires { BothPlaced map.now old.now new.now }
-    ensures { result ≡ length (differing map.now old.now new.now) }
-{
-    let n = records(map);
-    let mut count = 0;
-    let mut i = 0;
-    while i < n {
-        let r = record_at(map, i);
-        let different = is_different(old, new, r);
-        count += different as usize;
-        i += 1;
-    }
-    count
 }

@@ -2,24 +2,13 @@
 ghost use Rattle.std.specs.Prelude.{◌≡◌, ◌+◌, ◌*◌, ◌≤◌, length};
 ghost use Rattle.laws.specs.Parts.{put};
 ghost use Rattle.banks.specs.Values.{value_of, padded};
+ghost use Rattle.records.specs.Facts.{Member};
 ghost use Rattle.records.specs.Map.{places_end};
-ghost use Rattle.compare.specs.Compare.{differing, difference_of, difference_if, list_of, listed_over, BothPlaced, InBoth};
+ghost use Rattle.compare.specs.Compare.{differing, difference_of, difference_if, list_of, listed_over};
 
-use crate::differing::is_different;
+use crate::differing::Both;
 use banks::padded_part;
-use records::{Record, places_end, record_at, records};
-
-// Internal: eight bytes, from a place of the output on.
-fn put_eight(output: &mut [u8], at: usize, bytes: [u8; 8])
-    requires { at + 8 ≤ length output.old }
-    ensures { output.new ≡ put at bytes output.old }
-{
-    let mut i = 0;
-    while i < 8 {
-        output[at + i] = bytes[i];
-        i += 1;
-    }
-}
+use records::{Record, records};
 
 // Internal: the value's bytes, zero filled at the end.
 #[tactic(auto, using(laws::proofs::Copies::lent), unfolding(banks::specs::Values::value_of))]
@@ -28,50 +17,46 @@ fn value_bytes(store: &[u8], r: Record) -> [u8; 8]
     ensures { result ≡ padded (value_of r store.now) }
 {
     let at = r.offset as usize;
-    let end = places_end(r);
+    let end = r.places_end();
     padded_part(&store[at..end])
 }
 
-// Internal: bank, first location, width, kind, four zeros, old bytes, new bytes.
-fn put_difference(output: &mut [u8], at: usize, r: Record, old: &[u8], new: &[u8])
-    requires { (at + 24 ≤ length output.old) × InBoth r old.now new.now }
-    ensures { output.new ≡ put at (difference_of old.now new.now r) output.old }
-{
-    put_eight(output, at, [r.bank, r.first, r.width, r.kind, 0, 0, 0, 0]);
-    let was = value_bytes(old, r);
-    put_eight(output, at + 8, was);
-    let is = value_bytes(new, r);
-    put_eight(output, at + 16, is);
-}
-
-// Internal: the difference of the value, if it differs. Answers the place behind what is written.
-#[tactic(auto, using(crate::proofs::Listed::is_listed, crate::proofs::Listed::is_not_listed, crate::proofs::Listed::length_difference), unfolding(laws::specs::Parts::put))]
-fn put_if(output: &mut [u8], at: usize, r: Record, old: &[u8], new: &[u8]) -> usize
-    requires { (at + length (difference_if old.now new.now r) ≤ length output.old) × InBoth r old.now new.now }
-    ensures end { result ≡ at + length (difference_if old.now new.now r) }
-    ensures bytes { output.new ≡ put at (difference_if old.now new.now r) output.old }
-{
-    if !is_different(old, new, r) {
-        return at;
+impl Both<'_> {
+    // Internal: bank, first location, width, kind, four zeros, old bytes, new bytes.
+    #[tactic(auto, using(crate::proofs::Listed::in_both))]
+    fn put_difference(self, output: &mut [u8], at: usize, r: Record)
+        requires room { at + 24 ≤ length output.old }
+        requires member { Member r self.map.now }
+        ensures { output.new ≡ put at (difference_of self.entry.old.now self.entry.new.now r) output.old }
+    {
+        output[at..at + 8].copy_from_slice(&[r.bank, r.first, r.width, r.kind, 0, 0, 0, 0]);
+        output[at + 8..at + 16].copy_from_slice(&value_bytes(self.old, r));
+        output[at + 16..at + 24].copy_from_slice(&value_bytes(self.new, r));
     }
-    put_difference(output, at, r, old, new);
-    at + 24
-}
 
-// Internal: the list, over the output, which has room for it. Map and first store have passed 7 to 10, and the second is as long.
-#[tactic(auto, using(crate::proofs::Written::as_long, crate::proofs::Turns::begins))]
-pub fn put_list(map: &[u8], old: &[u8], new: &[u8], output: &mut [u8])
-    requires { BothPlaced map.now old.now new.now
-        × (24 * length (differing map.now old.now new.now) ≤ length output.old) }
-    ensures { output.new
-        ≡ listed_over (list_of map.now old.now new.now) output.old }
-{
-    let n = records(map);
-    let mut at = 0;
-    let mut i = 0;
-    while i < n {
-        let r = record_at(map, i);
-        at = put_if(output, at, r, old, new);
-        i += 1;
+    // Internal: the difference of the value, if it differs. Answers the place behind what is written.
+    #[tactic(auto, using(crate::proofs::Listed::one_value), unfolding(laws::specs::Parts::put))]
+    fn put_if(self, output: &mut [u8], at: usize, r: Record) -> usize
+        requires room { at + length (difference_if self.old.now self.new.now r) ≤ length output.old }
+        requires member { Member r self.map.now }
+        ensures end { result ≡ at + length (difference_if self.entry.old.now self.entry.new.now r) }
+        ensures bytes { output.new ≡ put at (difference_if self.entry.old.now self.entry.new.now r) output.old }
+    {
+        if !self.is_different(r) {
+            return at;
+        }
+        self.put_difference(output, at, r);
+        at + 24
+    }
+
+    // Internal: the list, over the output, which has room for it.
+    pub fn put_list(self, output: &mut [u8])
+        requires { 24 * length (differing self.map.now self.old.now self.new.now) ≤ length output.old }
+        ensures { output.new ≡ listed_over (list_of self.entry.map.now self.entry.old.now self.entry.new.now) output.old }
+    {
+        let mut at = 0;
+        for r in records(self.map) {
+            at = self.put_if(output, at, r);
+        }
     }
 }

@@ -6,17 +6,19 @@ use Prim.Native.Nat.{ℕ, ◌+◌, ◌-◌, ◌^◌, ◌/◌, ◌%◌, ◌<◌}
 use native.Mathlib.Omega.{arith}
 use lib.Dec.{ltb, eqb}
 use borrow.Author.Tests.{lt-ltb, ltb-true, eqb-true, ne_eqb}
+use Rattle.std.specs.Int.{w32}
+use Rattle.std.proofs.lemmas.Nat.Bits.{bit_at-trailing_zeros}
+use Rattle.std.specs.Prelude.{Option, Some, None, Result, Ok}
 use Rattle.laws.specs.Bits.{bits}
 use Rattle.laws.specs.Numbers.{first_failing}
 use Rattle.laws.proofs.Tests.{if_by, if_eq, both}
-use Rattle.laws.proofs.Trailing.{lowest_set, lowest_clear, lowest_found}
-use Rattle.frames.specs.Values.{scheme_at, field_value, writing_number}
+use Rattle.refusals.specs.Numbers.{number_in}
+use Rattle.refusals.specs.declared.refusal.Refusal.{Refusal}
+use Rattle.frames.specs.Values.{scheme_at, field_value}
 use Rattle.frames.specs.Write.{scheme_limit, event_fits, message_fits, frame_of, write_of}
-use Rattle.frames.specs.declared.message.Field.{Field}
 use Rattle.frames.specs.declared.message.Message.{Message}
 use Rattle.frames.specs.declared.message.Scheme.{Scheme}
-use Rattle.frames.specs.declared.message.Writing.{Writing}
-use Rattle.frames.proofs.Round.{written, reads_back, write_not_0}
+use Rattle.frames.proofs.Round.{written, reads_back}
 use Rattle.composing.specs.Compose.{or_missing, source_fits, shipped_of, or_blank, lowest_group, first_carried}
 use Rattle.composing.specs.Compose.{second_carried, event_with, event_by, compose_of, power_fits, power_by}
 use Rattle.composing.specs.Compose.{compose_power_of}
@@ -34,11 +36,11 @@ bit_is n k = ap (λ (w : ℕ). n / 2 ^ k % 2 ^ w) (one k)
 
 pub lowest : Lowest
 lowest groups p h =
-    let l = lowest_found 32 groups p h in
-    (l, rw bit_is (lowest_set 32 groups l), λ k q. rw bit_is (lowest_clear 32 groups k q))
+    let l = bit_at-trailing_zeros w32 groups p h in
+    (l.0, rw bit_is l.1, λ k q. rw bit_is (l.2 k q))
 
 -- a field that holds something holds it in range
-abbrev Below : ℕ → Field → Type 0
+abbrev Below : ℕ → Option ℕ → Type 0
 Below limit x = field_value x < limit
 
 blank_below : (x limit : ℕ) → 0 < limit → or_missing x limit ≡ true → Below limit (or_blank x)
@@ -51,7 +53,7 @@ blank_below x limit p e = if_eq (Below limit) x 255 (λ _. p) (λ n. go n (ltb x
 
 group_below : (groups : ℕ) → groups < 2 ^ 32 → Below 32 (lowest_group groups)
 unfolding lowest_group
-group_below groups h = if_eq (Below 32) groups _ (λ _. omega arith) (λ n. lowest_found 32 groups (omega arith) h)
+group_below groups h = if_eq (Below 32) groups _ (λ _. omega arith) (λ n. (bit_at-trailing_zeros w32 groups (omega arith) h).0)
 
 record InRange (e : Source) : Type 0 where
   sort : e.sort < 32
@@ -105,11 +107,11 @@ event_by_fits e r = go (first_carried s e) (first_below e r s)
     s : Scheme
     s = scheme_at (shipped_of e.scheme)
 
-    go : (x : Field) → Below (scheme_limit s) x → message_fits (event_with x s e) ≡ true
-    go Field.Blank h = event_fits_lem _ _ _ _ r.sort r.number r.information
-    go (Field.Holds v) h = event_fits_lem s _ _ _ h (second_below e r s) r.information
+    go : (x : Option ℕ) → Below (scheme_limit s) x → message_fits (event_with x s e) ≡ true
+    go None h = event_fits_lem _ _ _ _ r.sort r.number r.information
+    go (Some v) h = event_fits_lem s _ _ _ h (second_below e r s) r.information
 
-event_written : (e : Source) → source_fits e ≡ true → write_of (event_by e) ≡ Writing.Frame (frame_of (event_by e))
+event_written : (e : Source) → source_fits e ≡ true → write_of (event_by e) ≡ Ok (frame_of (event_by e))
 event_written e f = written (event_by e) (frame_of (event_by e)) (event_by_fits e (in_range e f)) refl
 
 pub composes : Composes
@@ -131,12 +133,12 @@ shipped_event : (e : Source) → event_by (by_scheme 255 e) ≡ event_by (by_sch
 unfolding event_by shipped_of scheme_at
 shipped_event e = go (or_blank e.short)
   where
-    go : (x : Field) → event_with x Scheme.ShortNumber (by_scheme 255 e) ≡ event_with x Scheme.ShortNumber (by_scheme 2 e)
-    go Field.Blank = refl
-    go (Field.Holds v) = refl
+    go : (x : Option ℕ) → event_with x Scheme.ShortNumber (by_scheme 255 e) ≡ event_with x Scheme.ShortNumber (by_scheme 2 e)
+    go None = refl
+    go (Some v) = refl
 
 -- a field that is not missing holds its number
-held : (x : ℕ) → (x ≡ 255 → ⊥) → or_blank x ≡ Field.Holds x
+held : (x : ℕ) → (x ≡ 255 → ⊥) → or_blank x ≡ Some x
 unfolding or_blank
 held x n = simp (ne_eqb x 255 n)
 
@@ -150,7 +152,7 @@ as_shipped =
     }
 
 power_written : (short groups : ℕ) → power_fits short groups ≡ true →
-    write_of (power_by short groups) ≡ Writing.Frame (frame_of (power_by short groups))
+    write_of (power_by short groups) ≡ Ok (frame_of (power_by short groups))
 unfolding power_fits
 power_written short groups e =
     let p = both (ltb groups (2 ^ 32)) _ e in
@@ -166,26 +168,11 @@ composes_power short groups e =
     let w = power_written short groups e in
     (frame_of m, simp e w, reads_back m (frame_of m) w)
 
--- a composer refuses nothing with 0
-six_not_0 : Writing.Refused 6 ≡ Writing.Refused 0 → ⊥
-six_not_0 q = let z : ◌≡◌ {A = ℕ} 6 0 = ap writing_number q in omega arith
-
-pub compose_not_0 : (e : Source) → compose_of e ≡ Writing.Refused 0 → ⊥
-unfolding compose_of
-compose_not_0 e =
-    if_by (λ w. w ≡ Writing.Refused 0 → ⊥) (source_fits e) (λ _ q. write_not_0 (event_by e) q) (λ _ q. six_not_0 q)
-
-pub power_not_0 : (short groups : ℕ) → compose_power_of short groups ≡ Writing.Refused 0 → ⊥
-unfolding compose_power_of
-power_not_0 short groups =
-    if_by (λ w. w ≡ Writing.Refused 0 → ⊥) (power_fits short groups) (λ _ q. write_not_0 (power_by short groups) q)
-    (λ _ q. six_not_0 q)
-
 -- so 6 is given exactly if a field is out of range
 pub composer_numbers : ComposerNumbers
 unfolding compose_of first_failing
 composer_numbers e =
-    if_by (λ w. writing_number w ≡ first_failing (composer_tests e)) (source_fits e) (λ f. simp (
+    if_by (λ (w : Result ℕ Refusal). number_in w ≡ first_failing (composer_tests e)) (source_fits e) (λ f. simp (
       f,
       event_written e f,
     )) (λ f. simp f)
@@ -193,5 +180,5 @@ composer_numbers e =
 pub power_numbers : PowerNumbers
 unfolding compose_power_of first_failing
 power_numbers short groups =
-    if_by (λ w. writing_number w ≡ first_failing (power_event_tests short groups)) (power_fits short groups)
+    if_by (λ (w : Result ℕ Refusal). number_in w ≡ first_failing (power_event_tests short groups)) (power_fits short groups)
     (λ f. simp (f, power_written short groups f)) (λ f. simp f)

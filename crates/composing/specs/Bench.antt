@@ -1,15 +1,14 @@
 -- The bench sheet's frames, P1 to P10, as one table, and the statement about it. It is proved in proofs/Bench.antt.
 -- Assumes nothing.
-use Rattle.std.specs.Prelude.{◌≡◌, List, [], ◌∷◌, ℕ, ◌+◌, ◌^◌}
+use Rattle.std.specs.Prelude.{◌≡◌, List, [], ◌∷◌, ℕ, ◌+◌, ◌^◌, Some, None, Ok, Err}
+use Rattle.refusals.specs.declared.refusal.Refusal.{Refusal}
+use Rattle.refusals.specs.declared.refusal.Refusal.TheVariants.{BlankNotZero}
 use Rattle.frames.specs.Read.{read_of}
 use Rattle.frames.specs.Write.{write_of}
 use Rattle.frames.specs.declared.message.Address.{Address}
-use Rattle.frames.specs.declared.message.Field.{Field}
 use Rattle.frames.specs.declared.message.Message.{Message}
-use Rattle.frames.specs.declared.message.Reading.{Reading}
 use Rattle.frames.specs.declared.message.Scheme.{Scheme}
 use Rattle.frames.specs.declared.message.Target.{Target}
-use Rattle.frames.specs.declared.message.Writing.{Writing}
 use Rattle.composing.specs.Compose.{compose_of, compose_power_of}
 use Rattle.composing.specs.declared.source.Source.{Source}
 
@@ -18,13 +17,13 @@ pub data Case : Type 0 where
   command : ℕ → Message → Case  -- the frame of a command, read and written
   event : Source → ℕ → Message → Case  -- an event is composed as the frame, which is read as the message
   power : ℕ → ℕ → ℕ → Message → Case  -- the same of a power event, from a short address and group bits
-  refused : ℕ → ℕ → Case  -- the frame is refused with the number
+  refused : ℕ → Refusal → Case  -- the frame is refused so
 
 abbrev pub CaseHolds : Case → Type 0
-CaseHolds (command f m) = (read_of f ≡ Reading.Got m) × (write_of m ≡ Writing.Frame f)
-CaseHolds (event e f m) = (compose_of e ≡ Writing.Frame f) × (read_of f ≡ Reading.Got m)
-CaseHolds (power s g f m) = (compose_power_of s g ≡ Writing.Frame f) × (read_of f ≡ Reading.Got m)
-CaseHolds (refused f n) = read_of f ≡ Reading.Refused n
+CaseHolds (command f m) = (read_of f ≡ Ok m) × (write_of m ≡ Ok f)
+CaseHolds (event e f m) = (compose_of e ≡ Ok f) × (read_of f ≡ Ok m)
+CaseHolds (power s g f m) = (compose_power_of s g ≡ Ok f) × (read_of f ≡ Ok m)
+CaseHolds (refused f e) = read_of f ≡ Err e
 
 abbrev pub AllHold : List Case → Type 0
 AllHold [] = Unit {0}
@@ -52,9 +51,9 @@ sheet =
     ∷ event (from 2 0 31 255 63 0 1023) 0x7EFFFF (Message.Event Scheme.ShortNumber 63 31 1023)  -- P5
     ∷ event (from 3 4 0 255 255 (2 ^ 7 + 2 ^ 9) 0) 0x8E1000 (Message.Event Scheme.GroupType 7 4 0)  -- P6
     ∷ event (from 4 0 5 31 255 0 1) 0xFE0001 (Message.Event Scheme.PrimaryType 31 0 1)  -- P7
-    ∷ power 5 (2 ^ 3) 0xFEF1C5 (Message.Power (Field.Holds 3) (Field.Holds 5))  -- P8
-    ∷ power 255 0 0xFEE000 (Message.Power Field.Blank Field.Blank)  -- P9
-    ∷ refused 0xFEE001 5  -- P10
+    ∷ power 5 (2 ^ 3) 0xFEF1C5 (Message.Power (Some 3) (Some 5))  -- P8
+    ∷ power 255 0 0xFEE000 (Message.Power None None)  -- P9
+    ∷ refused 0xFEE001 BlankNotZero  -- P10
     ∷ []
 
 abbrev pub SheetHolds : Type 0

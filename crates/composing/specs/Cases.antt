@@ -1,22 +1,23 @@
 -- Worked cases: the boundaries of each field that an event and a power event are composed from, and what each scheme
 -- carries. One table for each call, and one statement.
 -- Assumes nothing.
-use Rattle.std.specs.Prelude.{◌≡◌, List, [], ◌∷◌, map, ℕ, ◌-◌, ◌^◌}
-use Rattle.frames.specs.declared.message.Writing.{Writing}
+use Rattle.std.specs.Prelude.{◌≡◌, List, [], ◌∷◌, map, ℕ, ◌-◌, ◌^◌, Result, Ok, Err}
+use Rattle.refusals.specs.declared.refusal.Refusal.{Refusal}
+use Rattle.refusals.specs.declared.refusal.Refusal.TheVariants.{OutOfRange}
 use Rattle.composing.specs.Compose.{compose_of, compose_power_of}
 use Rattle.composing.specs.Bench.{from}
 use Rattle.composing.specs.declared.source.Source.{Source}
 
 pub record ComposeCase : Type 0 where
   pub source : Source
-  pub answer : Writing
+  pub answer : Result ℕ Refusal
 
 abbrev gives : Source → ℕ → ComposeCase
-gives source frame = record { source = source; answer = Writing.Frame frame }
+gives source frame = record { source = source; answer = Ok frame }
 
 -- 6: field out of range
 abbrev refused : Source → ComposeCase
-refused source = record { source = source; answer = Writing.Refused 6 }
+refused source = record { source = source; answer = Err OutOfRange }
 
 -- scheme, type, number, primary group, short address, group bits, information
 abbrev pub compose_cases : List ComposeCase
@@ -67,21 +68,21 @@ compose_cases =
 pub record PowerCase : Type 0 where
   pub short : ℕ
   pub groups : ℕ
-  pub answer : Writing
+  pub answer : Result ℕ Refusal
 
-abbrev power : ℕ → ℕ → Writing → PowerCase
+abbrev power : ℕ → ℕ → Result ℕ Refusal → PowerCase
 power short groups answer = record { short = short; groups = groups; answer = answer }
 
 abbrev pub power_cases : List PowerCase
 power_cases =
-    power 0 0 (Writing.Frame 0xFEE040)
-    ∷ power 63 (2 ^ 5) (Writing.Frame 0xFEF2FF)
-    ∷ power 64 (2 ^ 5) (Writing.Refused 6)
-    ∷ power 254 (2 ^ 5) (Writing.Refused 6)
-    ∷ power 255 (2 ^ 5) (Writing.Frame 0xFEF280)
-    ∷ power 255 1 (Writing.Frame 0xFEF000)
-    ∷ power 255 (2 ^ 31) (Writing.Frame 0xFEFF80)
-    ∷ power 255 (2 ^ 32 - 1) (Writing.Frame 0xFEF000)
+    power 0 0 (Ok 0xFEE040)
+    ∷ power 63 (2 ^ 5) (Ok 0xFEF2FF)
+    ∷ power 64 (2 ^ 5) (Err OutOfRange)
+    ∷ power 254 (2 ^ 5) (Err OutOfRange)
+    ∷ power 255 (2 ^ 5) (Ok 0xFEF280)
+    ∷ power 255 1 (Ok 0xFEF000)
+    ∷ power 255 (2 ^ 31) (Ok 0xFEFF80)
+    ∷ power 255 (2 ^ 32 - 1) (Ok 0xFEF000)
     ∷ []
 
 -- each case gets its frame, or 6

@@ -1,16 +1,14 @@
 -- The promises about the definitions. They are proved in proofs/: Composed and Settled.
 -- Assumes nothing.
-use Rattle.std.specs.Prelude.{◌≡◌, true, ℕ, ◌^◌, ◌<◌}
+use Rattle.std.specs.Prelude.{◌≡◌, true, ℕ, ◌^◌, ◌<◌, Some, None, Result, Ok}
 use Rattle.std.specs.Int.Count.{count_trailing_zeros}
 use Rattle.laws.specs.Bits.{bit}
 use Rattle.laws.specs.Settled.{Settles}
+use Rattle.refusals.specs.declared.refusal.Refusal.{Refusal}
 use Rattle.frames.specs.Values.{scheme_at}
 use Rattle.frames.specs.Read.{read_of}
-use Rattle.frames.specs.declared.message.Field.{Field}
 use Rattle.frames.specs.declared.message.Message.{Message}
-use Rattle.frames.specs.declared.message.Reading.{Reading}
 use Rattle.frames.specs.declared.message.Scheme.{Scheme}
-use Rattle.frames.specs.declared.message.Writing.{Writing}
 use Rattle.composing.specs.Compose.{source_fits, shipped_of, first_carried, second_carried, event_by, compose_of}
 use Rattle.composing.specs.Compose.{power_fits, power_by, compose_power_of}
 use Rattle.composing.specs.declared.source.Source.{Source}
@@ -18,12 +16,12 @@ use Rattle.composing.specs.declared.source.Source.{Source}
 -- what is composed in range is a frame, never a refusal, and reads back as the event of its scheme
 abbrev pub Composes : Type 0
 Composes = (e : Source) → source_fits e ≡ true →
-    (f : ℕ) × (compose_of e ≡ Writing.Frame f) × (read_of f ≡ Reading.Got (event_by e))
+    (f : ℕ) × (compose_of e ≡ Ok f) × (read_of f ≡ Ok (event_by e))
 
 -- that event has the fields that its scheme carries
 abbrev pub Carries : Type 0
 Carries = (e : Source) (s : Scheme) (first : ℕ) →
-    scheme_at (shipped_of e.scheme) ≡ s → first_carried s e ≡ Field.Holds first →
+    scheme_at (shipped_of e.scheme) ≡ s → first_carried s e ≡ Some first →
     event_by e ≡ Message.Event s first (second_carried s e) e.information
 
 -- the same source, by another scheme
@@ -41,7 +39,7 @@ by_scheme n e =
 
 -- a scheme whose field is missing falls back to 0
 abbrev pub FallsBack : Type 0
-FallsBack = (e : Source) → first_carried (scheme_at (shipped_of e.scheme)) e ≡ Field.Blank →
+FallsBack = (e : Source) → first_carried (scheme_at (shipped_of e.scheme)) e ≡ None →
     event_by e ≡ event_by (by_scheme 0 e)
 
 -- 255 for "as shipped", of every source, a refused one too (paper 02, Item 8)
@@ -57,7 +55,7 @@ pub record AsShipped : Type 0 where
 -- a power event that is composed in range is a frame too, and reads back
 abbrev pub ComposesPower : Type 0
 ComposesPower = (short groups : ℕ) → power_fits short groups ≡ true →
-    (f : ℕ) × (compose_power_of short groups ≡ Writing.Frame f) × (read_of f ≡ Reading.Got (power_by short groups))
+    (f : ℕ) × (compose_power_of short groups ≡ Ok f) × (read_of f ≡ Ok (power_by short groups))
 
 -- the trailing zeros of the 32 group bits are the lowest group: a member, and none below is
 abbrev pub Lowest : Type 0
@@ -67,10 +65,10 @@ Lowest = (groups : ℕ) → 0 < groups → groups < 2 ^ 32 →
     × ((k : ℕ) → k < count_trailing_zeros 32 groups → bit groups k ≡ 0)
 
 -- what each public call promises of its result r
-abbrev pub ComposeEventPromise : Source → Writing → Type 0
+abbrev pub ComposeEventPromise : Source → Result ℕ Refusal → Type 0
 ComposeEventPromise source r = r ≡ compose_of source
 
-abbrev pub ComposePowerPromise : ℕ → ℕ → Writing → Type 0
+abbrev pub ComposePowerPromise : ℕ → ℕ → Result ℕ Refusal → Type 0
 ComposePowerPromise short groups r = r ≡ compose_power_of short groups
 
 -- results that meet the same promise are equal, for each public call

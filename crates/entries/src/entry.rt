@@ -4,7 +4,9 @@ ghost use Rattle.entries.specs.Entry.{entry_of, is_broken};
 ghost use Rattle.entries.specs.Promises.{FourBytesPromise, EntryAtPromise};
 
 // A frame record has its clock and its frame.
-#[derive(Clone, Copy)]
+// Kept: a `Result<Entry, Refusal>` is no plainer: all definitions over records would speak of 15 refusals that none has; and
+// `entries:BrokenIs13` and `OneEntry` give the broken one its number beside the others'.
+#[derive(Clone, Copy, Debug, PartialEq, Eq)]
 pub enum Entry {
     Frame(u32, u32),
     PowerOn,
@@ -15,20 +17,17 @@ pub enum Entry {
 pub fn four_bytes(a: u8, b: u8, c: u8, d: u8) -> u32
     ensures { FourBytesPromise a b c d result }
 {
-    ((a as u32 * 256 + b as u32) * 256 + c as u32) * 256 + d as u32
+    u32::from_be_bytes([a, b, c, d])
 }
 
 #[tactic(auto, unfolding(crate::specs::Entry::entry_of))]
 fn entry_of(kind: u8, clock: u32, frame: u32) -> Entry
     ensures { result ≡ entry_of kind clock frame }
 {
-    if kind == 0 {
-        return Entry::Frame(clock, frame);
-    }
-    if kind == 1 {
-        Entry::PowerOn
-    } else {
-        Entry::Broken
+    match kind {
+        0 => Entry::Frame(clock, frame),
+        1 => Entry::PowerOn,
+        _ => Entry::Broken,
     }
 }
 
@@ -52,9 +51,5 @@ pub fn entry_at(records: &[u8], i: usize) -> Entry
 pub fn is_broken(entry: Entry) -> bool
     ensures { result ≡ is_broken entry }
 {
-    match entry {
-        Entry::Frame(_, _) => false,
-        Entry::PowerOn => false,
-        Entry::Broken => true,
-    }
+    matches!(entry, Entry::Broken)
 }

@@ -2,6 +2,7 @@
 -- Assumes nothing.
 use mathlib.Core.Path.{refl}
 use lib.Count.{count_trailing_zeros}
+use Rattle.refusals.specs.Numbers.{refusal_of}
 use Rattle.frames.specs.Values.{scheme_at}
 use Rattle.frames.specs.Write.{bytes_frame, event_fits, event_frame, power_frame, write_of}
 use Rattle.words.specs.Values.{address_at, field_at}
@@ -24,7 +25,7 @@ unfolding look_number look_of count_trailing_zeros address_at scheme_at field_at
 words = tt
 
 unfoldable faces : Unit {0}
-unfolding four_of state_bytes four_at state_of shape_holds reply_word look_word then_number start_face frame_face power_on_face
+unfolding refusal_of four_of state_bytes four_at state_of shape_holds reply_word look_word then_number start_face frame_face power_on_face
     run_face
 faces = tt
 

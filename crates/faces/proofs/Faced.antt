@@ -2,17 +2,20 @@
 -- Assumes nothing.
 use Prim.Native.Nat.{ℕ, zero, suc, ◌<◌}
 use mathlib.Core.Path.{◌≡◌, refl, sym, ap, ◌∙◌}
-use mathlib.Core.Bool.{Bool, true, false, not}
+use mathlib.Core.Bool.{Bool, true, false}
 use mathlib.Core.List.{List, [], ◌∷◌, ◌++◌}
 use native.Mathlib.Omega.{arith}
-use borrow.Author.Tests.{not-true, not-false}
+use Rattle.std.specs.Prelude.{Err}
 use Rattle.laws.specs.Numbers.{Test, test, first_failing}
 use Rattle.laws.specs.Outcome.{Outcome, Gives}
 use Rattle.laws.proofs.Joined.{joined_none, joined_some}
+use Rattle.refusals.specs.Numbers.{number_of}
+use Rattle.refusals.specs.declared.refusal.Refusal.{Refusal}
+use Rattle.refusals.proofs.Told.{refusal_is}
 use Rattle.banks.specs.Rules.{check_tests, check_number}
 use Rattle.rooms.specs.declared.reply.Stepped.{Stepped}
 use Rattle.packing.specs.StateBytes.{state_bytes, shape_holds}
-use Rattle.faces.specs.Answers.{refusal, reply_word}
+use Rattle.faces.specs.Answers.{reply_word}
 use Rattle.faces.specs.Face.{faced_by, then_number, shape_number, on_bytes, Faces}
 
 -- 7 to 11 come first, then the call's own number
@@ -61,16 +64,20 @@ faced g p q =
       leaves = g.store;
     }
 
-module _ (map before : List ℕ) (size : ℕ) (bytes : List ℕ) (shaped : Bool) (e : shaped ≡ shape_holds bytes)
-    (o : Outcome Stepped) where
-  pub unshaped : not shaped ≡ true → (number : ℕ) → number ≡ shape_number map before size →
-      (answer : ℕ) → answer ≡ reply_word (refusal number) →
+-- where the bytes are no state's, and where they are
+module _ (map before : List ℕ) (size : ℕ) (bytes : List ℕ) (o : Outcome Stepped) where
+  pub unshaped : {answer : ℕ} (refusal : Refusal) → answer ≡ reply_word (Err refusal) →
+      (shape_holds bytes ≡ false) × (number_of refusal ≡ shape_number map before size) →
       Faces answer bytes before (on_bytes map before size bytes o)
-  unshaped t number f answer g =
-      rw (sym e ∙ not-true shaped t)
-      (record { answers = g ∙ ap (λ (n : ℕ). reply_word (refusal n)) f; state_is = refl; leaves = refl })
+  unshaped refusal g e =
+      rw e.0
+      (record {
+        answers = g ∙ ap (λ (e : Refusal). reply_word (Err e)) (refusal_is refusal _ e.1);
+        state_is = refl;
+        leaves = refl;
+      })
 
-  pub shaped_as : not shaped ≡ false → {stepped : Stepped} {answer : ℕ} {state store : List ℕ} →
+  pub shaped_as : shape_holds bytes ≡ true → {stepped : Stepped} {answer : ℕ} {state store : List ℕ} →
       Gives stepped store o → state ≡ state_bytes stepped.state → answer ≡ reply_word stepped.reply →
       Faces answer state store (on_bytes map before size bytes o)
-  shaped_as t g p q = rw (sym e ∙ not-false shaped t) (faced g p q)
+  shaped_as t g p q = rw t (faced g p q)

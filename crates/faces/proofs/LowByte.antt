@@ -2,46 +2,40 @@
 -- Assumes nothing.
 use Prim.Native.Nat.{ℕ, zero, suc, ◌^◌, ◌<◌}
 use mathlib.Core.Path.{◌≡◌, refl, ap, sym, subst, ◌∙◌}
-use mathlib.Core.Logic.{⊎_elim}
 use mathlib.Core.Bool.{true}
 use mathlib.Core.List.{List, [], ◌∷◌}
 use native.Mathlib.Omega.{arith}
 use lib.Dec.{ltb}
 use lib.ListN.{length}
 use borrow.Author.Tests.{ltb-true}
+use Rattle.std.specs.Prelude.{Result, Ok, Err}
 use Rattle.laws.specs.Bits.{bits}
 use Rattle.laws.specs.Lists.{every}
 use Rattle.laws.specs.Numbers.{Test, first_failing}
 use Rattle.laws.proofs.Bits.{bits_is}
 use Rattle.laws.proofs.Tests.{both, if_by}
-use Rattle.frames.specs.Values.{writing_number, writing_word, WritingFits}
+use Rattle.refusals.specs.Numbers.{number_in}
+use Rattle.refusals.specs.declared.refusal.Refusal.{Refusal}
 use Rattle.frames.specs.Read.{read_of}
-use Rattle.frames.specs.declared.message.Writing.{Writing}
-use Rattle.frames.proofs.Refusals.{reader_numbers}
+use Rattle.frames.specs.declared.message.Message.{Message}
 use Rattle.frames.proofs.Round.{low_byte as writing-low}
 use Rattle.words.proofs.Worded.{low_byte as reading-low}
-use Rattle.words.specs.Word.{message_of}
+use Rattle.words.specs.Word.{word_of, message_of}
 use Rattle.composing.specs.Compose.{compose_of, compose_power_of}
 use Rattle.banks.specs.Rules.{check_number}
-use Rattle.looks.specs.Look.{look_number}
 use Rattle.looks.proofs.Looks.{look_number_is}
 use Rattle.finds.specs.Find.{find_tests, find_number, find_word}
 use Rattle.finds.proofs.Finds.{find_shows, find_alone}
 use Rattle.compare.specs.Compare.{compare_tests, compare_number, compare_of, compare_word}
 use Rattle.compare.proofs.Numbered.{compare_shows, compare_alone}
-use Rattle.census.specs.Census.{census_of}
-use Rattle.census.proofs.Numbered.{number_either}
+use Rattle.census.specs.Class.{numbered}
+use Rattle.census.specs.Census.{census_of, end_number}
 use Rattle.session.specs.Session.{session_tests, session_number, session_of, session_word}
 use Rattle.session.proofs.Numbered.{number_is}
 use Rattle.session.proofs.Shown.{session_shows, session_alone}
-use Rattle.numbers.specs.Numbers.{start_number}
-use Rattle.unit.proofs.Numbers.{calls_reply}
 use Rattle.faces.specs.Answers.{written_of, source}
-use Rattle.faces.specs.Face.{Faced, start_face, frame_face, power_on_face}
-use Rattle.faces.specs.Promises.{LowReply, LowByte}
-use Rattle.faces.proofs.Composed.{written_fits, composed_fits, power_fits_lem}
-use Rattle.faces.proofs.Numbers.{frame_number, power_on_number}
-use Rattle.faces.proofs.Words.{reply_low, look_low}
+use Rattle.faces.specs.Promises.{LowByte}
+use Rattle.faces.proofs.Words.{small_number, reply_low, look_low}
 
 -- the numbers of tests are bytes, and so is the one that is given
 small : (n : ℕ) (ts : List Test) → n ≡ first_failing ts → every (λ t. ltb t.number (2 ^ 8)) ts ≡ true → n < 2 ^ 8
@@ -55,13 +49,10 @@ small n (t ∷ ts) e h =
 itself : (n : ℕ) → n < 2 ^ 8 → bits n 7 0 ≡ n
 itself n h = bits_is n 7 0 0 n 0 (omega arith) h (omega arith)
 
-faced : (f : Faced) (ts : List Test) → f.reply.number ≡ first_failing ts →
-    every (λ t. ltb t.number (2 ^ 8)) ts ≡ true → LowReply f
-faced f ts e h = reply_low f.reply (small _ ts e h)
-
-written : (w : Writing) → WritingFits w → bits (writing_word w) 7 0 ≡ writing_number w
-written (Writing.Frame f) h = writing-low (Writing.Frame f) (omega arith)
-written (Writing.Refused n) h = writing-low (Writing.Refused n) h
+-- what was read
+read : (r : Result Message Refusal) → bits (word_of (numbered r)) 7 0 ≡ number_in r
+read (Ok m) = reading-low (Ok m) (omega arith)
+read (Err refusal) = reading-low (numbered (Err refusal)) (small_number {T = Message} (Err refusal))
 
 -- of a find, with the number at hand
 found_low : (map : List ℕ) (bank location n : ℕ) → find_number map bank location ≡ n
@@ -94,33 +85,26 @@ session_low map address bank location bytes (suc n) e =
     ∙ itself _ (small _ (session_tests map address bank location (length bytes)) refl refl)
 
 -- and of a census: 0 or 13
-census_low : (records : List ℕ) → bits (census_of records).number 7 0 ≡ (census_of records).number
-census_low records =
-    itself _ (⊎_elim (λ e. omega (arith, e)) (λ e. omega (arith, e)) (number_either records))
+census_low : (records : List ℕ) → bits (end_number (census_of records)) 7 0 ≡ end_number (census_of records)
+census_low records = itself _ (small_number (census_of records).end)
 
 pub low_byte : LowByte
-unfolding start_face start_number check_number look_number
+unfolding check_number
 low_byte =
     record {
       check = λ map store image. itself _ (small _ _ refl refl);
       look = λ map store bank location.
-          look_low _ (small _ _ (look_number_is map store bank location) refl)
-          ∙ look_number_is map store bank location;
+          look_low _ ∙ look_number_is map store bank location;
       find = λ map bank location. found_low map bank location _ refl;
       compare = λ map old new room. compared_low map old new room _ refl;
       session = λ map address bank location bytes. session_low map address bank location bytes _ refl;
       census = census_low;
-      start = λ map store image address groups.
-          faced (start_face map store image address groups) _ ((calls_reply map store image).start _) refl;
-      frame = λ map store image bytes frame clock.
-          faced (frame_face map store image bytes frame clock) _
-          (frame_number map store image bytes frame clock _ refl) refl;
-      power_on = λ map store image bytes.
-          faced (power_on_face map store image bytes) _ (power_on_number map store image bytes _ refl) refl;
-      read = λ frame. reading-low (read_of frame) (small _ _ (reader_numbers frame) refl);
-      write = λ word. written (written_of (message_of word)) (written_fits (message_of word));
+      start = λ map store image address groups. reply_low _;
+      frame = λ map store image bytes frame clock. reply_low _;
+      power_on = λ map store image bytes. reply_low _;
+      read = λ frame. read (read_of frame);
+      write = λ word. writing-low (written_of (message_of word));
       compose_event = λ sort number primary short groups information scheme.
-          let e = source sort number primary short groups information scheme in
-          written (compose_of e) (composed_fits e);
-      compose_power = λ short groups. written (compose_power_of short groups) (power_fits_lem short groups);
+          writing-low (compose_of (source sort number primary short groups information scheme));
+      compose_power = λ short groups. writing-low (compose_power_of short groups);
     }

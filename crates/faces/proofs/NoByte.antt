@@ -2,19 +2,23 @@
 -- Assumes nothing.
 use Prim.Native.Nat.{ℕ, ◌<◌, ◌≤◌}
 use mathlib.Core.Path.{◌≡◌, sym, ap, ◌∙◌}
-use mathlib.Core.Bool.{false}
+use mathlib.Core.Bool.{false≢true}
 use mathlib.Core.List.{List}
 use native.Mathlib.Omega.{arith}
 use lib.ListN.{length, replicate}
 use borrow.Author.Tests.{ne_eqb, lt-leb}
+use Rattle.std.specs.Prelude.{Ok, Err, IsErr}
+use Rattle.refusals.specs.Numbers.{number_of, number_in}
+use Rattle.refusals.specs.declared.refusal.Refusal.{Refusal}
+use Rattle.refusals.proofs.Told.{numbers_tell, refusal_is}
 use Rattle.records.proofs.Members.{member_fields}
 use Rattle.banks.proofs.Standing.{stands}
-use Rattle.looks.specs.Look.{look_number, refused_look, look_of}
+use Rattle.looks.specs.Look.{look_number, look_of}
 use Rattle.looks.proofs.Looks.{look_shows, look_checked}
-use Rattle.rooms.specs.declared.reply.Reply.{Reply}
+use Rattle.rooms.specs.Reply.{Reply}
 use Rattle.numbers.specs.Numbers.{start_number}
 use Rattle.unit.proofs.Numbers.{calls_reply}
-use Rattle.faces.specs.Answers.{refusal, reply_word, look_word, look_answer}
+use Rattle.faces.specs.Answers.{reply_word, look_word, look_answer}
 use Rattle.faces.specs.Face.{then_number, start_face, Faces}
 use Rattle.faces.specs.Promises.{FacesNotCut}
 use Rattle.faces.proofs.Faced.{then_some, then_is}
@@ -33,36 +37,33 @@ module _ (map store : List ℕ) (bank location : ℕ) (over : bank ≤ 255 → l
   unfolding look_number
   no_value = then_is map store (length store) 14 _ none_there
 
-  pub look_over : (number answer : ℕ) → number ≡ then_number map store (length store) 14 →
-      answer ≡ look_word (refused_look number) → answer ≡ look_answer map store bank location
+  pub look_over : {answer : ℕ} (refusal : Refusal) → answer ≡ look_word (Err refusal) →
+      number_of refusal ≡ then_number map store (length store) 14 → answer ≡ look_answer map store bank location
   unfolding look_of
-  look_over number answer e g =
+  look_over refusal g e =
       g
-      ∙ ap (λ (n : ℕ). look_word (refused_look n)) (e ∙ sym no_value)
+      ∙ ap (λ (r : Refusal). look_word (Err r)) (refusal_is refusal _ (e ∙ sym no_value))
       ∙ rw (ne_eqb (look_number map store bank location) 0 none_there)
 
--- a reply that is a refusal
-refusal_is : (r : Reply) → r.answered ≡ false → r.answer ≡ 0 → reply_word (refusal r.number) ≡ reply_word r
-unfolding reply_word
-refusal_is r p q = rw (p, q)
+-- a reply that is a refusal, by its number
+refused_with : (r : Reply) → IsErr r → (refusal : Refusal) → number_of refusal ≡ number_in r → Err refusal ≡ r
+refused_with (Ok answer) h refusal e = absurd (false≢true h)
+refused_with (Err other) h refusal e = ap Err (numbers_tell refusal other e)
 
 module _ (map store image : List ℕ) (address groups : ℕ) (over : 255 < address) where
-  no_address : (start_face map store image address groups).reply.number ≡ then_number map store (length image) 6
+  no_address : number_in (start_face map store image address groups).reply ≡ then_number map store (length image) 6
   unfolding start_face start_number then_number
   no_address =
       (calls_reply map store image).start _ ∙ rw (lt-leb address 63 (omega arith), ne_eqb address 255 (λ e. omega arith))
 
-  pub start_over : (number answer : ℕ) → number ≡ then_number map store (length image) 6 →
-      answer ≡ reply_word (refusal number) →
+  pub start_over : {answer : ℕ} (refusal : Refusal) → answer ≡ reply_word (Err refusal) →
+      number_of refusal ≡ then_number map store (length image) 6 →
       Faces answer (replicate 96 0) store (start_face map store image address groups)
-  start_over number answer e g =
+  start_over refusal g e =
       let some = then_some map store (length image) 6 (omega arith) in
       let r = (faces_refused map store image).start address groups (omega (arith, some, no_address)) in
       record {
-        answers =
-            g
-            ∙ ap (λ (n : ℕ). reply_word (refusal n)) (e ∙ sym no_address)
-            ∙ refusal_is _ r.unanswered r.no_answer;
+        answers = g ∙ ap reply_word (refused_with _ r.refuses refusal (e ∙ sym no_address));
         state_is = sym r.state_stays;
         leaves = sym r.store_stays;
       }

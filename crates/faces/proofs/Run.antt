@@ -11,6 +11,7 @@ use borrow.Author.Tests.{ne_eqb, not-true, not-false}
 use Rattle.std.specs.Prelude.{if◌then◌else◌}
 use Rattle.laws.specs.Lists.{some}
 use Rattle.laws.specs.Outcome.{leaves}
+use Rattle.refusals.specs.Numbers.{refusal_of}
 use Rattle.records.specs.Map.{records_of}
 use Rattle.hearing.specs.declared.heard.Heard.{Heard}
 use Rattle.rooms.specs.Rules.{address_holds, state_holds}
@@ -28,6 +29,7 @@ use Rattle.tracing.specs.declared.runs.Ran.{Ran}
 use Rattle.packing.specs.StateBytes.{state_bytes, state_of, shape_holds}
 use Rattle.faces.specs.Face.{then_number, shape_number, refused_run, run_face, RunFaces}
 use Rattle.faces.proofs.Faced.{then_some}
+use Rattle.faces.proofs.Numbers.{shape_again}
 
 module _ (map store image : List ℕ) (s : State) (unfit : state_holds (records_of map) store s ≡ false) where
   abbrev number : ℕ
@@ -49,7 +51,7 @@ module _ (map store image : List ℕ) (s : State) (unfit : state_holds (records_
       (rw power_number_lem some_number)
       ∙ power_number_lem
 
-  refused : (x : Input) → input_of map image store s x ≡ leaves (refusing s number) store
+  refused : (x : Input) → input_of map image store s x ≡ leaves (refusing s (refusal_of number)) store
   unfolding input_of step_of power_on_of
   refused power_on = rw (power_number_lem, is_number)
   refused (hears heard) = rw (step_number_lem heard, is_number)
@@ -61,7 +63,7 @@ module _ (map store image : List ℕ) (s : State) (unfit : state_holds (records_
   runs : (xs : List Input) → run_from map image store s xs ≡ record { output = told xs; state = s; store = store }
   unfolding refusing output_of
   runs [] = refl
-  runs (x ∷ xs) = rw (refused x, runs xs)
+  runs (x ∷ xs) = rw (refused x, runs xs, shape_again map store (length image))
 
   writes : (es : List Entry) → told (inputs_of es) ++ (if some is_broken es then broken else []) ≡ refused_run number es
   writes [] = refl

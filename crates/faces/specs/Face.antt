@@ -1,18 +1,19 @@
 -- What the calls of the unit answer and leave, over a state of 96 bytes.
 -- Assumes nothing.
-use Rattle.std.specs.Prelude.{ℕ, ◌/◌, ◌≡◌, false, List, [], ◌∷◌, ◌++◌, length, drop, if◌then◌else◌}
+use Rattle.std.specs.Prelude.{ℕ, ◌/◌, ◌≡◌, false, List, [], ◌∷◌, ◌++◌, Err, length, drop, if◌then◌else◌}
 use Rattle.laws.specs.Numbers.{test, first_failing}
 use Rattle.laws.specs.Outcome.{Outcome}
+use Rattle.refusals.specs.Numbers.{refusal_of}
 use Rattle.banks.specs.Rules.{check_tests}
 use Rattle.hearing.specs.Pairs.{heard_at}
-use Rattle.rooms.specs.declared.reply.Reply.{Reply}
+use Rattle.rooms.specs.Reply.{Reply}
 use Rattle.rooms.specs.declared.reply.Stepped.{Stepped}
 use Rattle.unit.specs.Step.{step_of, power_on_of, start_of}
 use Rattle.entries.specs.Entry.{is_broken}
 use Rattle.entries.specs.declared.entry.Entry.{Entry}
 use Rattle.tracing.specs.Trace.{broken, Traced, traced_of}
 use Rattle.packing.specs.StateBytes.{state_bytes, state_of, shape_holds}
-use Rattle.faces.specs.Answers.{refusal, reply_word}
+use Rattle.faces.specs.Answers.{reply_word}
 
 -- what a call of the unit comes to: its reply, the state's bytes, the store
 pub record Faced : Type 0 where
@@ -35,7 +36,7 @@ shape_number map store size = then_number map store size 12
 abbrev pub on_bytes : List ℕ → List ℕ → ℕ → List ℕ → Outcome Stepped → Faced
 on_bytes map store size bytes o =
     if shape_holds bytes then faced_by o
-    else record { reply = refusal (shape_number map store size); state = bytes; store = store }
+    else record { reply = Err (refusal_of (shape_number map store size)); state = bytes; store = store }
 
 unfoldable pub frame_face : List ℕ → List ℕ → List ℕ → List ℕ → ℕ → ℕ → Faced
 frame_face map store image bytes frame clock =

@@ -1,19 +1,20 @@
 -- The promises about the definitions. They are proved in proofs/: Words, LowByte, Numbers, NoByte
 -- and Settled.
 -- Assumes nothing.
-use Rattle.std.specs.Prelude.{◌≡◌, Bool, false, ◌&&◌, List, [], ◌∷◌, ◌++◌, ℕ, ◌<◌, ◌^◌, length, replicate}
+use Rattle.std.specs.Prelude.{◌≡◌, Bool, ◌&&◌, List, [], ◌∷◌, ◌++◌, ℕ, ◌+◌, ◌*◌, ◌<◌, ◌^◌, Result, Ok, Err, IsErr, length, replicate}
 use Rattle.laws.specs.Bits.{bits}
 use Rattle.laws.specs.Numbers.{Test, test}
 use Rattle.laws.specs.Settled.{Settles}
-use Rattle.frames.specs.Values.{reading_number, writing_number, writing_word, WritingFits}
+use Rattle.refusals.specs.Numbers.{number_of, number_in}
+use Rattle.refusals.specs.declared.refusal.Refusal.{Refusal}
+use Rattle.frames.specs.Values.{writing_word, WritingFits}
 use Rattle.frames.specs.Read.{read_of}
-use Rattle.frames.specs.declared.message.Writing.{Writing}
 use Rattle.words.specs.Word.{message_of}
 use Rattle.composing.specs.Compose.{compose_of, compose_power_of}
 use Rattle.records.specs.Map.{records_of}
 use Rattle.banks.specs.Rules.{check_tests, check_number}
 use Rattle.looks.specs.Look.{look_number}
-use Rattle.looks.specs.declared.looked.Looked.{Looked}
+use Rattle.looks.specs.declared.looked.Place.{Place}
 use Rattle.finds.specs.Find.{find_number, find_word}
 use Rattle.compare.specs.Compare.{compare_number, compare_of, compare_word}
 use Rattle.compare.specs.Promises.{CompareWordPromise, SettlesCompared}
@@ -21,11 +22,11 @@ use Rattle.session.specs.Session.{session_number, session_of, session_word}
 use Rattle.session.specs.Promises.{SessionWordPromise, SettlesWritten}
 use Rattle.hearing.specs.Pairs.{heard_at}
 use Rattle.rooms.specs.Rules.{state_holds}
-use Rattle.rooms.specs.declared.reply.Reply.{Reply}
+use Rattle.rooms.specs.Reply.{Reply, answered, answer_byte}
 use Rattle.numbers.specs.Numbers.{start_tests, heard_tests}
 use Rattle.numbers.specs.Promises.{GivenBy}
 use Rattle.entries.specs.Entry.{entries}
-use Rattle.census.specs.Census.{census_of}
+use Rattle.census.specs.Census.{census_of, end_number}
 use Rattle.census.specs.Promises.{AddCensusPromise, SettlesAdded}
 use Rattle.tracing.specs.Run.{room_for}
 use Rattle.packing.specs.StateBytes.{flag, state_of, shape_holds}
@@ -39,35 +40,55 @@ use Rattle.faces.specs.Face.{run_face, RunFaces}
 
 -- number | answered << 8 | answer << 16: each part stands in its bits
 pub record ReplyBack (r : Reply) : Type 0 where
-  pub number : bits (reply_word r) 7 0 ≡ r.number
-  pub answered : bits (reply_word r) 15 8 ≡ flag r.answered
-  pub answer : bits (reply_word r) 31 16 ≡ r.answer
+  pub number : bits (reply_word r) 7 0 ≡ number_in r
+  pub answered : bits (reply_word r) 15 8 ≡ flag (answered r)
+  pub answer : bits (reply_word r) 31 16 ≡ answer_byte r
 
 abbrev pub RepliesBack : Type 0
-RepliesBack = (r : Reply) → r.number < 256 → r.answer < 256 → ReplyBack r
+RepliesBack = (r : Reply) → answer_byte r < 256 → ReplyBack r
 
--- number | width << 8 | offset << 16
-pub record LookBack (l : Looked) : Type 0 where
-  pub number : bits (look_word l) 7 0 ≡ l.number
-  pub width : bits (look_word l) 15 8 ≡ l.width
-  pub offset : bits (look_word l) 31 16 ≡ l.offset
+-- number | width << 8 | offset << 16: a place has number 0, a refusal width and offset 0
+abbrev pub LookBack : Result Place Refusal → Type 0
+LookBack (Ok place) = (bits (look_word (Ok place)) 7 0 ≡ 0)
+    × (bits (look_word (Ok place)) 15 8 ≡ place.width) × (bits (look_word (Ok place)) 31 16 ≡ place.offset)
+LookBack (Err refusal) = (bits (look_word (Err refusal)) 7 0 ≡ number_of refusal)
+    × (bits (look_word (Err refusal)) 15 8 ≡ 0) × (bits (look_word (Err refusal)) 31 16 ≡ 0)
+
+-- what the types of a place can hold
+abbrev pub PlaceHeld : Result Place Refusal → Type 0
+PlaceHeld (Ok place) = (place.width < 256) × (place.offset < 2 ^ 16)
+PlaceHeld (Err refusal) = Unit {0}
 
 abbrev pub LooksBack : Type 0
-LooksBack = (l : Looked) → l.number < 256 → l.width < 256 → l.offset < 2 ^ 16 → LookBack l
+LooksBack = (l : Result Place Refusal) → PlaceHeld l → LookBack l
 
 -- number | frame << 8: a frame has number 0, a refusal frame 0
-abbrev pub WritingBack : Writing → Type 0
-WritingBack (Writing.Frame f) = (bits (writing_word (Writing.Frame f)) 7 0 ≡ 0)
-    × (bits (writing_word (Writing.Frame f)) 31 8 ≡ f)
-WritingBack (Writing.Refused n) = (bits (writing_word (Writing.Refused n)) 7 0 ≡ n)
-    × (bits (writing_word (Writing.Refused n)) 31 8 ≡ 0)
+abbrev pub WritingBack : Result ℕ Refusal → Type 0
+WritingBack (Ok f) = (bits (writing_word (Ok f)) 7 0 ≡ 0) × (bits (writing_word (Ok f)) 31 8 ≡ f)
+WritingBack (Err refusal) = (bits (writing_word (Err refusal)) 7 0 ≡ number_of refusal)
+    × (bits (writing_word (Err refusal)) 31 8 ≡ 0)
 
 abbrev pub WritingsBack : Type 0
-WritingsBack = (w : Writing) → WritingFits w → WritingBack w
+WritingsBack = (w : Result ℕ Refusal) → WritingFits w → WritingBack w
+
+-- the same of bare numbers, whatever they are: number | middle << 8 | high << 16
+pub record PartsBack (w number middle high : ℕ) : Type 0 where
+  pub first : bits w 7 0 ≡ number
+  pub second : bits w 15 8 ≡ middle
+  pub third : bits w 31 16 ≡ high
+
+abbrev pub ThreePartsBack : Type 0
+ThreePartsBack = (number middle high : ℕ) → number < 256 → middle < 256 → high < 2 ^ 16 →
+    PartsBack (number + middle * 2 ^ 8 + high * 2 ^ 16) number middle high
+
+-- number | rest << 8: the number stands there under any rest, and the rest if it has 24 bits
+abbrev pub TwoPartsBack : Type 0
+TwoPartsBack = (number rest : ℕ) → number < 256 → (bits (number + rest * 2 ^ 8) 7 0 ≡ number)
+    × (rest < 2 ^ 24 → bits (number + rest * 2 ^ 8) 31 8 ≡ rest)
 
 -- one rule for every answer, but for a run's count of records: its low byte is the number
 abbrev pub LowReply : Faced → Type 0
-LowReply f = bits (reply_word f.reply) 7 0 ≡ f.reply.number
+LowReply f = bits (reply_word f.reply) 7 0 ≡ number_in f.reply
 
 pub record LowByte : Type 0 where
   pub check : (map store image : List ℕ) →
@@ -80,18 +101,18 @@ pub record LowByte : Type 0 where
   pub session : (map : List ℕ) (address bank location : ℕ) (bytes : List ℕ) →
       bits (session_word (session_of map address bank location bytes)) 7 0
       ≡ session_number map address bank location (length bytes)
-  pub census : (records : List ℕ) → bits (census_of records).number 7 0 ≡ (census_of records).number
+  pub census : (records : List ℕ) → bits (end_number (census_of records)) 7 0 ≡ end_number (census_of records)
   pub start : (map store image : List ℕ) (address groups : ℕ) → LowReply (start_face map store image address groups)
   pub frame : (map store image bytes : List ℕ) (frame clock : ℕ) →
       LowReply (frame_face map store image bytes frame clock)
   pub power_on : (map store image bytes : List ℕ) → LowReply (power_on_face map store image bytes)
-  pub read : (frame : ℕ) → bits (read_answer frame) 7 0 ≡ reading_number (read_of frame)
-  pub write : (word : ℕ) → bits (write_answer word) 7 0 ≡ writing_number (written_of (message_of word))
+  pub read : (frame : ℕ) → bits (read_answer frame) 7 0 ≡ number_in (read_of frame)
+  pub write : (word : ℕ) → bits (write_answer word) 7 0 ≡ number_in (written_of (message_of word))
   pub compose_event : (sort number primary short groups information scheme : ℕ) →
       bits (event_answer sort number primary short groups information scheme) 7 0
-      ≡ writing_number (compose_of (source sort number primary short groups information scheme))
+      ≡ number_in (compose_of (source sort number primary short groups information scheme))
   pub compose_power : (short groups : ℕ) →
-      bits (power_answer short groups) 7 0 ≡ writing_number (compose_power_of short groups)
+      bits (power_answer short groups) 7 0 ≡ number_in (compose_power_of short groups)
 
 -- ---- the numbers
 
@@ -111,13 +132,13 @@ frame_tests map store size bytes frame clock =
 -- each number is given exactly if every test before its own passes and its own fails
 pub record Numbered (map store image : List ℕ) : Type 0 where
   pub start : (address groups : ℕ) →
-      GivenBy (start_face map store image address groups).reply.number
+      GivenBy (number_in (start_face map store image address groups).reply)
       (start_tests map store (length image) (record { address = address; groups = groups }))
   pub frame : (bytes : List ℕ) (frame clock : ℕ) →
-      GivenBy (frame_face map store image bytes frame clock).reply.number
+      GivenBy (number_in (frame_face map store image bytes frame clock).reply)
       (frame_tests map store (length image) bytes frame clock)
   pub power_on : (bytes : List ℕ) →
-      GivenBy (power_on_face map store image bytes).reply.number (power_on_tests map store (length image) bytes)
+      GivenBy (number_in (power_on_face map store image bytes).reply) (power_on_tests map store (length image) bytes)
 
 abbrev pub FacesNumbered : Type 0
 FacesNumbered = (map store image : List ℕ) → Numbered map store image
@@ -125,7 +146,7 @@ FacesNumbered = (map store image : List ℕ) → Numbered map store image
 -- a number that does not fit a byte is refused, and not cut: 7 to 11, then 6 of a start, 14 of a look
 pub record NotCut (map store : List ℕ) : Type 0 where
   pub start : (image : List ℕ) (address groups : ℕ) → 255 < address →
-      (start_face map store image address groups).reply.number ≡ then_number map store (length image) 6
+      number_in (start_face map store image address groups).reply ≡ then_number map store (length image) 6
   pub bank : (bank location : ℕ) → 255 < bank →
       look_number map store bank location ≡ then_number map store (length store) 14
   pub location : (bank location : ℕ) → 255 < location →
@@ -134,21 +155,20 @@ pub record NotCut (map store : List ℕ) : Type 0 where
 abbrev pub FacesNotCut : Type 0
 FacesNotCut = (map store : List ℕ) → NotCut map store
 
--- a refusal: no answer; these state bytes and this store, byte for byte
+-- a refusal, and so no answer; these state bytes and this store, byte for byte
 pub record Refuses (f : Faced) (bytes store : List ℕ) : Type 0 where
-  pub unanswered : f.reply.answered ≡ false
-  pub no_answer : f.reply.answer ≡ 0
+  pub refuses : IsErr f.reply
   pub state_stays : f.state ≡ bytes
   pub store_stays : f.store ≡ store
 
 pub record Refused (map store image : List ℕ) : Type 0 where
   -- a refused start writes all zeros
-  pub start : (address groups : ℕ) → 0 < (start_face map store image address groups).reply.number →
+  pub start : (address groups : ℕ) → 0 < number_in (start_face map store image address groups).reply →
       Refuses (start_face map store image address groups) (replicate 96 0) store
   pub frame : (bytes : List ℕ) → Bytes bytes → (frame clock : ℕ) →
-      0 < (frame_face map store image bytes frame clock).reply.number →
+      0 < number_in (frame_face map store image bytes frame clock).reply →
       Refuses (frame_face map store image bytes frame clock) bytes store
-  pub power_on : (bytes : List ℕ) → Bytes bytes → 0 < (power_on_face map store image bytes).reply.number →
+  pub power_on : (bytes : List ℕ) → Bytes bytes → 0 < number_in (power_on_face map store image bytes).reply →
       Refuses (power_on_face map store image bytes) bytes store
 
 abbrev pub FacesRefused : Type 0

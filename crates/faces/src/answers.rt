@@ -1,55 +1,44 @@
 // An answer as one number.
 ghost use Rattle.std.specs.Prelude.{◌≡◌};
 ghost use Rattle.frames.specs.Values.{writing_word, WritingFits};
-ghost use Rattle.looks.specs.Look.{refused_look};
-ghost use Rattle.faces.specs.Answers.{refusal, reply_word, look_word};
+ghost use Rattle.faces.specs.Answers.{reply_word, look_word};
 
-use frames::Writing;
-use looks::Looked;
-use packing::flag;
+use looks::Place;
+use refusals::Refusal;
 use rooms::Reply;
 
 #[tactic(auto, unfolding(crate::specs::Answers::reply_word))]
 pub fn reply_word(reply: Reply) -> u32
     ensures { result ≡ reply_word reply }
 {
-    reply.number as u32 + flag(reply.answered) as u32 * 256 + reply.answer as u32 * 65536
-}
-
-pub fn refusal_word(number: u8) -> u32
-    ensures { result ≡ reply_word (refusal number) }
-{
-    reply_word(Reply {
-        number: number,
-        answered: false,
-        answer: 0,
-    })
+    match reply {
+        Ok(None) => 0,
+        Ok(Some(byte)) => u32::from_le_bytes([0, 1, byte, 0]),
+        Err(refused) => u32::from(refused.number()),
+    }
 }
 
 #[tactic(auto, unfolding(crate::specs::Answers::look_word))]
-pub fn look_word(looked: Looked) -> u32
+pub fn look_word(looked: Result<Place, Refusal>) -> u32
     ensures { result ≡ look_word looked }
 {
-    looked.number as u32 + looked.width as u32 * 256 + looked.offset as u32 * 65536
-}
-
-pub fn no_look_word(number: u8) -> u32
-    ensures { result ≡ look_word (refused_look number) }
-{
-    look_word(Looked {
-        number: number,
-        width: 0,
-        offset: 0,
-    })
+    match looked {
+        Ok(place) => {
+            let [low, high] = place.offset.to_le_bytes();
+            u32::from_le_bytes([0, place.width, low, high])
+        }
+        Err(refusal) => u32::from(refusal.number()),
+    }
 }
 
 // Internal: a frame has 24 bits.
-pub fn writing_word(writing: Writing) -> u32
+// Kept: the new form is no plainer: three bytes of a frame would be taken out to be put together again.
+pub fn writing_word(writing: Result<u32, Refusal>) -> u32
     requires { WritingFits writing }
     ensures { result ≡ writing_word writing }
 {
     match writing {
-        Writing::Frame(frame) => frame * 256,
-        Writing::Refused(number) => number as u32,
+        Ok(frame) => frame * 256,
+        Err(refusal) => u32::from(refusal.number()),
     }
 }

@@ -1,26 +1,27 @@
 // The calls on frames alone.
-ghost use Rattle.std.specs.Prelude.{◌≡◌, true};
+ghost use Rattle.std.specs.Prelude.{◌≡◌, true, IfOk, OnErr};
 ghost use Rattle.frames.specs.Values.{writing_word};
-ghost use Rattle.faces.specs.Answers.{out_of_range, fields_held, FieldsHeld};
+ghost use Rattle.faces.specs.Answers.{out_of_range, source, FieldsHeld};
 ghost use Rattle.faces.specs.Promises.{ReadFacePromise, WriteFacePromise};
 ghost use Rattle.faces.specs.Promises.{ComposeEventFacePromise, ComposePowerFacePromise};
 
 use crate::answers::writing_word;
 use composing::Source;
-use frames::{Reading, Writing};
+use refusals::Refusal;
+use std::num::TryFromIntError;
 
 // The message word of a frame.
 pub fn read_face(frame: u32) -> u64
     ensures { ReadFacePromise frame result }
 {
-    words::word_of(frames::read(frame))
+    words::word_of(frames::read(frame).map_err(Refusal::number))
 }
 
 // 6: out of range.
 fn out_of_range() -> u32
     ensures { result ≡ writing_word out_of_range }
 {
-    writing_word(Writing::Refused(6))
+    writing_word(Err(Refusal::OutOfRange))
 }
 
 // The frame of a message word.
@@ -28,26 +29,37 @@ fn out_of_range() -> u32
 pub fn write_face(word: u64) -> u32
     ensures { WriteFacePromise word result }
 {
-    let Reading::Got(message) = words::message_of(word) else {
-        return out_of_range();
-    };
-    writing_word(frames::write(message))
+    match words::message_of(word) {
+        Ok(message) => writing_word(frames::write(message)),
+        Err(_) => out_of_range(),
+    }
 }
 
-// Each field of a source fits its type.
-#[tactic(auto, using(crate::proofs::Composed::held))]
-fn is_held(sort: u32, number: u32, primary: u32, short: u32, information: u32, scheme: u32) -> bool
-    ensures same { result ≡ fields_held sort number primary short information scheme }
-    ensures facts { result ≡ true → FieldsHeld sort number primary short information scheme }
+// The fields of an event, each in its type; one that is too large for it is out of its range too.
+fn source(
+    sort: u32,
+    number: u32,
+    primary: u32,
+    short: u32,
+    groups: u32,
+    information: u32,
+    scheme: u32,
+) -> Result<Source, TryFromIntError>
+    ensures held { IfOk result (λ e. e ≡ source sort number primary short groups information scheme) }
+    ensures too_large { OnErr result (FieldsHeld sort number primary short information scheme → ⊥) }
 {
-    let bytes = (sort <= 255)
-        & (number <= 255)
-        & (primary <= 255)
-        & (short <= 255)
-        & (scheme <= 255);
-    bytes & (information <= 65535)
+    Ok(Source {
+        sort: u8::try_from(sort)?,
+        number: u8::try_from(number)?,
+        primary: u8::try_from(primary)?,
+        short: u8::try_from(short)?,
+        groups,
+        information: u16::try_from(information)?,
+        scheme: u8::try_from(scheme)?,
+    })
 }
 
+// Kept: seven numbers: the C interface (`mf_compose_event`).
 // The frame of an event. The fields are wider than their ranges, so that none is cut to fit.
 #[tactic(auto, using(crate::proofs::Composed::not_held, crate::proofs::Composed::composed_fits))]
 pub fn compose_event_face(
@@ -61,19 +73,10 @@ pub fn compose_event_face(
 ) -> u32
     ensures { ComposeEventFacePromise sort number primary short groups information scheme result }
 {
-    if !is_held(sort, number, primary, short, information, scheme) {
-        return out_of_range();
+    match source(sort, number, primary, short, groups, information, scheme) {
+        Ok(source) => writing_word(composing::compose_event(source)),
+        Err(_) => out_of_range(),
     }
-    let source = Source {
-        sort: sort as u8,
-        number: number as u8,
-        primary: primary as u8,
-        short: short as u8,
-        groups: groups,
-        information: information as u16,
-        scheme: scheme as u8,
-    };
-    writing_word(composing::compose_event(source))
 }
 
 // The frame of a power event.
@@ -81,8 +84,8 @@ pub fn compose_event_face(
 pub fn compose_power_face(short: u32, groups: u32) -> u32
     ensures { ComposePowerFacePromise short groups result }
 {
-    if short > 255 {
-        return out_of_range();
+    match u8::try_from(short) {
+        Ok(short) => writing_word(composing::compose_power(short, groups)),
+        Err(_) => out_of_range(),
     }
-    writing_word(composing::compose_power(short as u8, groups))
 }

@@ -1,33 +1,36 @@
 // The calls of the unit: on a map, a store, a reset image and a state of 96 bytes.
-ghost use Rattle.std.specs.Prelude.{◌≡◌, false, length};
+ghost use Rattle.std.specs.Prelude.{◌≡◌, true, false, length, MatchResult};
+ghost use Rattle.refusals.specs.Numbers.{number_of};
 ghost use Rattle.rooms.specs.Rules.{address_holds};
-ghost use Rattle.faces.specs.Face.{then_number};
+ghost use Rattle.packing.specs.StateBytes.{state_bytes, state_of, shape_holds};
+ghost use Rattle.faces.specs.Answers.{reply_word};
+ghost use Rattle.faces.specs.Face.{then_number, shape_number};
 ghost use Rattle.faces.specs.Promises.{CheckFacePromise, LookFacePromise, FindFacePromise, StartFacePromise};
 ghost use Rattle.faces.specs.Promises.{CompareFacePromise, SessionFacePromise};
 ghost use Rattle.faces.specs.Promises.{FrameFacePromise, PowerOnFacePromise, RunFacePromise};
 
-use crate::answers::{look_word, no_look_word, refusal_word, reply_word};
+use crate::answers::{look_word, reply_word};
 use hearing::Who;
 use packing::{pack, shape_holds, unpack};
-use rooms::State;
+use refusals::{Refusal, number_in};
+use rooms::{State, Stepped};
 
 // The number of map, store and reset image: 7 to 11, or 0.
 pub fn check_face(map: &[u8], store: &[u8], image: &[u8]) -> u32
     ensures { CheckFacePromise map.now store.now image.now result }
 {
-    banks::check(map, store, image) as u32
+    u32::from(number_in(banks::check(map, store, image)))
 }
 
-// 7 to 11, then a number that the call gives in any case.
+// 7 to 11, then a refusal that the call gives in any case.
 #[tactic(auto, using(crate::proofs::Faced::then_first, crate::proofs::Faced::then_own))]
-fn number_then(map: &[u8], store: &[u8], image: &[u8], own: u8) -> u8
-    ensures { result ≡ then_number map.now store.now (length image.now) own }
+fn refusal_then(map: &[u8], store: &[u8], image: &[u8], own: Refusal) -> Refusal
+    ensures { number_of result ≡ then_number map.now store.now (length image.now) (number_of own) }
 {
-    let number = banks::check(map, store, image);
-    if number != 0 {
-        return number;
+    match banks::check(map, store, image) {
+        Ok(()) => own,
+        Err(refusal) => refusal,
     }
-    own
 }
 
 // Number, width and store offset of the value that begins at the bank and location. They are wider than bytes, so that
@@ -36,13 +39,10 @@ fn number_then(map: &[u8], store: &[u8], image: &[u8], own: u8) -> u8
 pub fn look_face(map: &[u8], store: &[u8], bank: u32, location: u32) -> u32
     ensures { LookFacePromise map.now store.now bank location result }
 {
-    if bank > 255 {
-        return no_look_word(number_then(map, store, store, 14));
-    }
-    if location > 255 {
-        return no_look_word(number_then(map, store, store, 14));
-    }
-    look_word(looks::look_at(map, store, bank as u8, location as u8))
+    let (Ok(bank), Ok(location)) = (u8::try_from(bank), u8::try_from(location)) else {
+        return look_word(Err(refusal_then(map, store, store, Refusal::NoValue)));
+    };
+    look_word(looks::look_at(map, store, bank, location))
 }
 
 // Which value holds the location, or why none does. They are wider than bytes, as above: 6.
@@ -74,6 +74,15 @@ pub fn session_face(
     session::session_word(map, address, bank, location, bytes, frames)
 }
 
+// What a step leaves: the state's bytes, and the reply as one number.
+fn told(stepped: Stepped, state: &mut [u8; 96]) -> u32
+    ensures state_is { state.new ≡ state_bytes stepped.state }
+    ensures answers { result ≡ reply_word stepped.reply }
+{
+    *state = pack(stepped.state);
+    reply_word(stepped.reply)
+}
+
 // A state is made, and the store as a power-on leaves it. The address is wider than a byte, so that it is not cut to
 // fit: one over 255 is refused as any other that is out of range, with a state of all zeros.
 #[tactic(auto, using(crate::proofs::Faced::faced, crate::proofs::NoByte::start_over), unfolding(crate::specs::Face::start_face))]
@@ -88,21 +97,32 @@ pub fn start_face(
     ensures { StartFacePromise map.now store.old image.now
         address groups result state.new store.new }
 {
-    if address > 255 {
+    let Ok(address) = u8::try_from(address) else {
         *state = [0; 96];
-        return refusal_word(number_then(map, store, image, 6));
-    }
-    let who = Who {
-        address: address as u8,
-        groups: groups,
+        return reply_word(Err(refusal_then(map, store, image, Refusal::OutOfRange)));
     };
-    let stepped = unit::start(map, store, image, who);
-    let after = pack(stepped.state);
-    *state = after;
-    reply_word(stepped.reply)
+    told(
+        unit::start(map, store, image, Who { address, groups }),
+        state,
+    )
+}
+
+// The state that the bytes say. Bytes that are no state's are refused like a state that breaks a rule: 7 to 11, then 12.
+fn state_in(map: &[u8], store: &[u8], image: &[u8], bytes: [u8; 96]) -> Result<State, Refusal>
+    ensures { MatchResult result
+        (λ state. (shape_holds bytes ≡ true) × (state ≡ state_of bytes))
+        (λ refusal. (shape_holds bytes ≡ false)
+        × (number_of refusal ≡ shape_number map.now store.now (length image.now))) }
+{
+    if shape_holds(bytes) {
+        Ok(unpack(bytes))
+    } else {
+        Err(refusal_then(map, store, image, Refusal::StateRules))
+    }
 }
 
 // A frame, heard at a clock.
+// Kept: this and a power-on apart, as the C interface has them; what both do stands in `state_in` and `told`.
 #[tactic(auto, using(crate::proofs::Faced::unshaped, crate::proofs::Faced::shaped_as), unfolding(crate::specs::Face::frame_face))]
 pub fn frame_face(
     map: &[u8],
@@ -115,15 +135,13 @@ pub fn frame_face(
     ensures { FrameFacePromise map.now store.old image.now state.old
         frame clock result state.new store.new }
 {
-    let bytes = *state;
-    if !shape_holds(bytes) {
-        return refusal_word(number_then(map, store, image, 12));
+    match state_in(map, store, image, *state) {
+        Ok(before) => {
+            let heard = hearing::heard_at(clock, frame);
+            told(unit::step(map, store, image, before, heard), state)
+        }
+        Err(refusal) => reply_word(Err(refusal)),
     }
-    let heard = hearing::heard_at(clock, frame);
-    let stepped = unit::step(map, store, image, unpack(bytes), heard);
-    let after = pack(stepped.state);
-    *state = after;
-    reply_word(stepped.reply)
 }
 
 // A later power-on.
@@ -132,26 +150,27 @@ pub fn power_on_face(map: &[u8], store: &mut [u8], image: &[u8], state: &mut [u8
     ensures { PowerOnFacePromise map.now store.old image.now state.old
         result state.new store.new }
 {
-    let bytes = *state;
-    if !shape_holds(bytes) {
-        return refusal_word(number_then(map, store, image, 12));
+    match state_in(map, store, image, *state) {
+        Ok(before) => told(unit::power_on(map, store, image, before), state),
+        Err(refusal) => reply_word(Err(refusal)),
     }
-    let stepped = unit::power_on(map, store, image, unpack(bytes));
-    let after = pack(stepped.state);
-    *state = after;
-    reply_word(stepped.reply)
 }
 
 // A state that breaks the rule of the address.
 fn unfit(state: State) -> State
     ensures { address_holds result.who.address ≡ false }
 {
-    let mut broken = state;
-    broken.who.address = 64;
-    broken
+    State {
+        who: Who {
+            address: 64,
+            ..state.who
+        },
+        ..state
+    }
 }
 
 // Many records, with one check. Bytes that are no state's are refused like a state that breaks a rule.
+// Kept: two runs: one, over the one state or the other, is no plainer, since what goes back has to ask the same again.
 #[tactic(auto, using(crate::proofs::Run::run_unshaped, crate::proofs::Run::run_shaped))]
 pub fn run_face(
     map: &[u8],
@@ -165,14 +184,11 @@ pub fn run_face(
         records.now output.old
         result state.new store.new output.new }
 {
-    let bytes = *state;
-    let kept = unpack(bytes);
-    if !shape_holds(bytes) {
-        let refused = tracing::run(map, store, image, unfit(kept), records, output);
-        return refused.count;
+    let kept = unpack(*state);
+    if !shape_holds(*state) {
+        return tracing::run(map, store, image, unfit(kept), records, output).count;
     }
     let ran = tracing::run(map, store, image, kept, records, output);
-    let after = pack(ran.state);
-    *state = after;
+    *state = pack(ran.state);
     ran.count
 }

@@ -8,6 +8,7 @@ use native.Mathlib.Omega.{arith}
 use borrow.Author.Tests.{leb-true, le-leb, lt-leb, ne_eqb}
 use lib.Dec.{leb}
 use lib.ListN.{length}
+use Rattle.std.specs.Prelude.{Result, Ok, Err, IfOk}
 use Rattle.laws.specs.Numbers.{Test, test, first_failing}
 use Rattle.laws.proofs.Bits.{bits_is}
 use Rattle.laws.proofs.Tests.{if_eq, both}
@@ -19,33 +20,40 @@ use Rattle.records.specs.Order.{ordered, order_tests, order_number}
 use Rattle.records.specs.Lookup.{holder}
 use Rattle.records.specs.Halving.{visited, sought}
 use Rattle.records.specs.Facts.{Says}
-use Rattle.records.specs.declared.holder.Found.{Found}
-use Rattle.records.specs.declared.holder.Found.TheVariants.{At, Missing}
+use Rattle.records.specs.declared.record.Record.{Record}
+use Rattle.records.specs.declared.holder.Why.{Why}
 use Rattle.records.specs.declared.holder.Sought.{Sought}
 use Rattle.records.specs.declared.holder.Why.TheVariants.{Absent, Hole, Past}
 use Rattle.records.proofs.Members.{member_fields}
-use Rattle.records.proofs.Ordered.{zero_ordered, ordered_zero, ordered_size, size_most}
+use Rattle.records.proofs.Ordered.{zero_ordered, ordered_zero, ordered_size}
 use Rattle.records.proofs.Halving.{halving_finds}
 use Rattle.records.proofs.Visits.{visited_most}
 use Rattle.records.proofs.Missing.{found_exactly}
-use Rattle.finds.specs.Find.{refused_find, accepted_find, find_of, what, place, width, found_word, answer_word, find_tests, find_number, find_word}
-use Rattle.finds.specs.Find.{else_out_of_range}
+use Rattle.finds.specs.Find.{accepted_find, find_of, what, place, width, found_word, answer_word, find_tests, find_number, find_word}
+use Rattle.refusals.specs.Numbers.{number_of, number_in}
+use Rattle.refusals.specs.declared.refusal.Refusal.{Refusal}
+use Rattle.refusals.proofs.Told.{refusal_is, not_none}
+use Rattle.refusals.proofs.Among.{number_among}
 use Rattle.finds.specs.Promises.{FindSays, FindRefuses, FindMost, FindNumbers, FindStands, FindBack, FindShows, FindAlone}
 use Rattle.finds.specs.Promises.{FindSettled, FindWordSettled}
 use Rattle.finds.specs.declared.found.Finding.{Finding}
 
 -- 7 to 9 hold, or not
 pub find_found : (map : List ℕ) (bank location : ℕ) → order_number map ≡ 0
-    → find_of map bank location ≡ accepted_find map bank location
+    → find_of map bank location ≡ Ok (accepted_find map bank location)
 unfolding find_of
 find_found map bank location e = rw e
 
+pub find_refused : (map : List ℕ) (bank location : ℕ) (e : Refusal) → number_of e ≡ order_number map
+    → Err e ≡ find_of map bank location
+unfolding find_of
+find_refused map bank location e q = rw (ne_eqb (order_number map) 0 (not_none e _ q)) (ap Err (refusal_is e _ q))
+
 -- what halving finds and counts is that answer
-pub find_sought : (map : List ℕ) → ordered map ≡ true → (bank location : ℕ) (s : Sought) → s ≡ sought map bank location
-    → record { number = 0; found = s.found; count = s.count } ≡ find_of map bank location
+pub sought_is : (map : List ℕ) → ordered map ≡ true → (bank location : ℕ) (s : Sought) → s ≡ sought map bank location
+    → record { found = s.found; count = s.count } ≡ accepted_find map bank location
 unfolding sought
-find_sought map o bank location s e =
-    rw (e, halving_finds map o bank location) (sym (find_found map bank location (ordered_zero map o)))
+sought_is map o bank location s e = rw (e, halving_finds map o bank location)
 
 -- and the count is a byte
 pub sought_fits : (map : List ℕ) → ordered map ≡ true → (bank location : ℕ) (s : Sought) → s ≡ sought map bank location
@@ -56,46 +64,40 @@ sought_fits map o bank location s e =
     let count = ap (λ (x : Sought). x.count) e in
     omega arith
 
-pub find_refused : (map : List ℕ) (bank location n : ℕ) → order_number map ≡ n → (n ≡ 0 → ⊥)
-    → find_of map bank location ≡ refused_find n
-unfolding find_of
-find_refused map bank location n e h = rw (e, ne_eqb n 0 h)
-
 pub find_says : FindSays
 find_says map o bank location f =
     let e = find_found map bank location (ordered_zero map o) in
-    let exactly = found_exactly map o bank location f in
-    (λ q. exactly.0 (sym (ap (λ (x : Finding). x.found) e) ∙ ap (λ (x : Finding). x.found) q), λ s. e ∙ rw (exactly.1 s))
+    let exactly = found_exactly map o bank location f in (
+      λ q.
+          let same : accepted_find map bank location ≡ record { found = f; count = length (visited map bank location) } = cc in
+          exactly.0 (ap (λ (x : Finding). x.found) same),
+      λ s. e ∙ rw (exactly.1 s),
+    )
 
 pub find_most : FindMost
 unfolding find_of
 find_most map bank location =
-    if_eq (λ (x : Finding). x.count ≤ 7) (order_number map) 0
+    if_eq (λ (x : Result Finding Refusal). IfOk x (λ y. y.count ≤ 7)) (order_number map) 0
     (λ e. visited_most map (ordered_size map (zero_ordered map e)) bank location)
-    (λ n. omega arith)
+    (λ n. tt)
 
-of_number : (map : List ℕ) (bank location : ℕ) → (find_of map bank location).number ≡ order_number map
-unfolding find_of
+of_number : (map : List ℕ) (bank location : ℕ) → number_in (find_of map bank location) ≡ order_number map
+unfolding find_of order_number
 of_number map bank location =
-    if_eq (λ (f : Finding). f.number ≡ order_number map) (order_number map) 0 (λ e. sym e) (λ n. refl)
-
--- an accepted map has at most 64 records
-pub found_size : (map : List ℕ) (bank location : ℕ) → (find_of map bank location).number ≡ 0 → length map ≤ 512
-found_size map bank location e =
-    size_most (length map) (ordered_size map (zero_ordered map (sym (of_number map bank location) ∙ e)))
+    if_eq (λ (x : Result Finding Refusal). number_in x ≡ order_number map) (order_number map) 0
+    (λ e. sym e)
+    (λ n. number_among (order_tests map) refl (order_number map) refl n)
 
 pub find_refuses : FindRefuses
-find_refuses map bank location n h = (
-  λ q. sym (of_number map bank location) ∙ ap (λ (x : Finding). x.number) q,
-  λ e. find_refused map bank location n e (λ z. absurd (omega arith)),
-)
+find_refuses map bank location n h =
+    (λ q. sym (of_number map bank location) ∙ q, λ q. of_number map bank location ∙ q)
 
 -- as one number
 module _ (map : List ℕ) (bank location : ℕ) where
   abbrev last_test : List Test
   last_test = test 6 (leb bank 255 && leb location 255) ∷ []
 
-  number_refused : (n : ℕ) → 0 < n → order_number map ≡ n → find_number map bank location ≡ n
+  pub number_refused : (n : ℕ) → 0 < n → order_number map ≡ n → find_number map bank location ≡ n
   unfolding order_number find_number
   number_refused n h e = joined_some (order_tests map) last_test n h e
 
@@ -109,52 +111,23 @@ module _ (map : List ℕ) (bank location : ℕ) where
   number_none e b l = number_sound e ∙ rw (le-leb bank 255 b, le-leb location 255 l)
 
   -- one of them is no byte
-  pub number_else : (leb bank 255 && leb location 255) ≡ false → find_number map bank location ≡ else_out_of_range map
-  unfolding first_failing else_out_of_range
-  number_else f =
-      if_eq (λ (n : ℕ). find_number map bank location ≡ n) (order_number map) 0
-      (λ e. number_sound e ∙ rw f)
-      (λ h. number_refused (order_number map) (omega arith) refl)
+  pub number_6 : order_number map ≡ 0 → (leb bank 255 && leb location 255) ≡ false → find_number map bank location ≡ 6
+  unfolding first_failing
+  number_6 e f = number_sound e ∙ rw f
 
-  else_some : 0 < else_out_of_range map
-  unfolding else_out_of_range
-  else_some = if_eq (λ (n : ℕ). 0 < n) (order_number map) 0 (λ e. omega arith) (λ h. omega arith)
+  pub bank_over : order_number map ≡ 0 → 255 < bank → find_number map bank location ≡ 6
+  bank_over e h = number_6 e (rw (lt-leb bank 255 h))
 
-  word_refused : (n : ℕ) → 0 < n → find_number map bank location ≡ n → find_word map bank location ≡ n
+  pub location_over : order_number map ≡ 0 → bank ≤ 255 → 255 < location → find_number map bank location ≡ 6
+  location_over e b h = number_6 e (rw (le-leb bank 255 b, lt-leb location 255 h))
+
+  pub word_refused : (n : ℕ) → 0 < n → find_number map bank location ≡ n → find_word map bank location ≡ n
   unfolding find_word
   word_refused n h e = rw (e, ne_eqb n 0 (λ z. absurd (omega arith)))
 
-  word_found : find_number map bank location ≡ 0 → find_word map bank location ≡ answer_word (accepted_find map bank location)
+  pub word_found : find_number map bank location ≡ 0 → find_word map bank location ≡ answer_word (accepted_find map bank location)
   unfolding find_word
   word_found e = rw e
-
-  -- what each return of the code has to show
-  pub word_number : (r : Finding) → r ≡ find_of map bank location → (r.number ≡ 0 → ⊥) → bank ≤ 255 → location ≤ 255
-      → r.number ≡ find_word map bank location
-  word_number r e h b l =
-      let n = ap (λ (x : Finding). x.number) e ∙ of_number map bank location in
-      sym (word_refused r.number (omega arith) (number_refused r.number (omega arith) (sym n)))
-
-  pub word_is : (r : Finding) (v w : ℕ) → r ≡ find_of map bank location → r.number ≡ 0 → bank ≤ 255 → location ≤ 255
-      → v ≡ found_word r.found → w ≡ v + r.count * 2 ^ 32
-      → w ≡ find_word map bank location
-  word_is r v w e z b l p q =
-      let n : order_number map ≡ 0 = sym (of_number map bank location) ∙ sym (ap (λ (x : Finding). x.number) e) ∙ z in
-      q ∙ ap (λ (k : ℕ). k + r.count * 2 ^ 32) p ∙ ap answer_word (e ∙ find_found map bank location n)
-      ∙ sym (word_found (number_none n b l))
-
-  word_else : (n : ℕ) → n ≡ else_out_of_range map → (leb bank 255 && leb location 255) ≡ false
-      → n ≡ find_word map bank location
-  word_else n e f =
-      let some = else_some in
-      sym (word_refused n (omega arith) (number_else f ∙ sym e))
-
-  pub word_bank_over : (n : ℕ) → n ≡ else_out_of_range map → 255 < bank → n ≡ find_word map bank location
-  word_bank_over n e h = word_else n e (rw (lt-leb bank 255 h))
-
-  pub word_location_over : (n : ℕ) → n ≡ else_out_of_range map → bank ≤ 255 → 255 < location
-      → n ≡ find_word map bank location
-  word_location_over n e b h = word_else n e (rw (le-leb bank 255 b, lt-leb location 255 h))
 
 pub find_numbers : FindNumbers
 unfolding find_number
@@ -183,37 +156,26 @@ pub find_alone : FindAlone
 find_alone map bank location h = word_refused map bank location (find_number map bank location) h refl
 
 -- what is found in an ordered map fits its bits
-fits : (map : List ℕ) → ordered map ≡ true → (bank location : ℕ) (f : Found) → Says map bank location f
+fits : (map : List ℕ) → ordered map ≡ true → (bank location : ℕ) (f : Result Record Why) → Says map bank location f
     → (what f < 2 ^ 8) × (place f < 2 ^ 8) × (width f < 2 ^ 8)
-fits map o bank location (At r) s =
+fits map o bank location (Ok r) s =
     let fields = member_fields map o r s.0 in
     (omega arith, omega arith, omega arith)
-fits map o bank location (Missing Absent) s = (omega arith, omega arith, omega arith)
-fits map o bank location (Missing (Hole n)) s =
+fits map o bank location (Err Absent) s = (omega arith, omega arith, omega arith)
+fits map o bank location (Err (Hole n)) s =
     let x = s.mapped in
     let fields = member_fields map o x.0 x.1 in
     let held = x.2 in
     (omega arith, omega arith, omega arith)
-fits map o bank location (Missing Past) s = (omega arith, omega arith, omega arith)
+fits map o bank location (Err Past) s = (omega arith, omega arith, omega arith)
 
--- and so does the whole of it
-pub answer_fits : (map : List ℕ) (bank location : ℕ) (r : Finding) (w : ℕ) → r ≡ find_of map bank location → r.number ≡ 0
-    → w ≡ found_word r.found → w < 2 ^ 32
-unfolding found_word
-answer_fits map bank location r w e z q =
-    let o = zero_ordered map (sym (of_number map bank location) ∙ sym (ap (λ (x : Finding). x.number) e) ∙ z) in
-    let f = r.found in
-    let found = sym (ap (λ (x : Finding). x.found) (e ∙ find_found map bank location (ordered_zero map o))) in
-    let small = fits map o bank location f ((found_exactly map o bank location f).0 found) in
-    omega arith
-
-parts : (w x y z n : ℕ) (f : Finding) → w ≡ x * 2 ^ 8 + y * 2 ^ 16 + z * 2 ^ 24 + n * 2 ^ 32 → f.number ≡ 0
+parts : (w x y z n : ℕ) (f : Finding) → w ≡ x * 2 ^ 8 + y * 2 ^ 16 + z * 2 ^ 24 + n * 2 ^ 32
     → x ≡ what f.found → y ≡ place f.found → z ≡ width f.found → n ≡ f.count
     → x < 2 ^ 8 → y < 2 ^ 8 → z < 2 ^ 8 → n < 2 ^ 8
     → FindBack w f
-parts w x y z n f e d a b c g p q r s =
+parts w x y z n f e a b c g p q r s =
     record {
-      number = bits_is w 7 0 (x + y * 2 ^ 8 + z * 2 ^ 16 + n * 2 ^ 24) 0 0 (omega arith) (omega arith) (omega arith) ∙ sym d;
+      number = bits_is w 7 0 (x + y * 2 ^ 8 + z * 2 ^ 16 + n * 2 ^ 24) 0 0 (omega arith) (omega arith) (omega arith);
       what = bits_is w 15 8 (y + z * 2 ^ 8 + n * 2 ^ 16) x 0 (omega arith) p (omega arith) ∙ a;
       place = bits_is w 23 16 (z + n * 2 ^ 8) y (x * 2 ^ 8) (omega arith) q (omega arith) ∙ b;
       width = bits_is w 31 24 n z (x * 2 ^ 8 + y * 2 ^ 16) (omega arith) r (omega arith) ∙ c;
@@ -230,7 +192,7 @@ find_shows map bank location e =
     let small = fits map o bank location f ((found_exactly map o bank location f).0 refl) in
     let most = visited_most map (ordered_size map o) bank location in
     parts (find_word map bank location) (what f) (place f) (width f) n (accepted_find map bank location)
-    (word_found map bank location e) refl refl refl refl refl small.0 small.1 small.2 (omega arith)
+    (word_found map bank location e) refl refl refl refl small.0 small.1 small.2 (omega arith)
 
 pub find_settled : FindSettled
 find_settled map bank location = settles (find_of map bank location)

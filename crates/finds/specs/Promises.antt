@@ -1,32 +1,35 @@
 -- What is proved of the find calls. The proofs stand in proofs/Finds.antt.
 -- Assumes nothing.
-use Rattle.std.specs.Prelude.{◌≡◌, ◌↔◌, true, List, ℕ, ◌≤◌, ◌<◌, length}
+use Rattle.std.specs.Prelude.{◌≡◌, ◌↔◌, true, List, ℕ, ◌≤◌, ◌<◌, length, Result, Ok, IfOk}
 use Rattle.laws.specs.Bits.{bits}
 use Rattle.laws.specs.Numbers.{Given}
 use Rattle.laws.specs.Settled.{Settles}
 use Rattle.records.specs.Order.{ordered, order_number}
 use Rattle.records.specs.Halving.{visited}
 use Rattle.records.specs.Facts.{Says}
-use Rattle.records.specs.declared.holder.Found.{Found}
-use Rattle.finds.specs.Find.{refused_find, accepted_find, find_of, what, place, width, find_tests, find_number, find_word}
+use Rattle.records.specs.declared.record.Record.{Record}
+use Rattle.records.specs.declared.holder.Why.{Why}
+use Rattle.refusals.specs.Numbers.{number_in}
+use Rattle.refusals.specs.declared.refusal.Refusal.{Refusal}
+use Rattle.finds.specs.Find.{accepted_find, find_of, what, place, width, find_tests, find_number, find_word}
 use Rattle.finds.specs.declared.found.Finding.{Finding}
 
--- a map that passes 7, 8 and 9: number 0, an answer exactly if what it says is so, and how many records are visited
+-- a map that passes 7, 8 and 9: no refusal, an answer exactly if what it says is so, and how many records are visited
 abbrev pub FindSays : Type 0
 FindSays =
-    (map : List ℕ) → ordered map ≡ true → (bank location : ℕ) (f : Found)
-    → (find_of map bank location ≡ record { number = 0; found = f; count = length (visited map bank location) })
+    (map : List ℕ) → ordered map ≡ true → (bank location : ℕ) (f : Result Record Why)
+    → (find_of map bank location ≡ Ok (record { found = f; count = length (visited map bank location) }))
     ↔ Says map bank location f
 
 -- any other: its number, and no answer
 abbrev pub FindRefuses : Type 0
 FindRefuses =
     (map : List ℕ) (bank location n : ℕ) → 0 < n
-    → (find_of map bank location ≡ refused_find n) ↔ (order_number map ≡ n)
+    → (number_in (find_of map bank location) ≡ n) ↔ (order_number map ≡ n)
 
 -- whatever is handed in, the count is at most 7; it is that of the look-up, and 7 to 9 go over all records before it
 abbrev pub FindMost : Type 0
-FindMost = (map : List ℕ) (bank location : ℕ) → (find_of map bank location).count ≤ 7
+FindMost = (map : List ℕ) (bank location : ℕ) → IfOk (find_of map bank location) (λ x. x.count ≤ 7)
 
 -- As one number.
 
@@ -44,7 +47,7 @@ FindStands =
 
 -- number | what << 8 | location << 16 | width << 24 | count << 32: each part stands in its bits, and nothing above them
 pub record FindBack (w : ℕ) (x : Finding) : Type 0 where
-  pub number : bits w 7 0 ≡ x.number
+  pub number : bits w 7 0 ≡ 0
   pub what : bits w 15 8 ≡ what x.found
   pub place : bits w 23 16 ≡ place x.found
   pub width : bits w 31 24 ≡ width x.found
@@ -64,7 +67,7 @@ FindAlone =
 
 -- What each public call promises of its result r; answers that meet the same promise are equal.
 
-abbrev pub FindPromise : List ℕ → ℕ → ℕ → Finding → Type 0
+abbrev pub FindPromise : List ℕ → ℕ → ℕ → Result Finding Refusal → Type 0
 FindPromise map bank location r = r ≡ find_of map bank location
 
 abbrev pub FindWordPromise : List ℕ → ℕ → ℕ → ℕ → Type 0

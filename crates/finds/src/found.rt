@@ -1,42 +1,34 @@
 // The find call: 7, 8, 9, then the look-up's answer and how many records it examined.
 ghost use Rattle.std.specs.Prelude.{◌≡◌};
-ghost use Rattle.finds.specs.Find.{refused_find};
+ghost use Rattle.finds.specs.Find.{accepted_find};
 ghost use Rattle.finds.specs.Promises.{FindPromise};
 
-use records::{Found, Why, halve, order_number};
+use records::{Map, Record, Sought, Why};
+use refusals::Refusal;
 
-#[derive(Clone, Copy)]
+#[derive(Clone, Copy, Debug, PartialEq, Eq)]
 pub struct Finding {
-    pub number: u8,
-    pub found: Found,
+    pub found: Result<Record, Why>,
     pub count: u8,
 }
 
-// A refusal's answer is that the bank is absent; nothing was looked up, and its count is 0.
-fn refused(number: u8) -> Finding
-    ensures { result ≡ refused_find number }
+// Internal: of a map that has passed 7, 8 and 9.
+#[tactic(auto, using(crate::proofs::Finds::sought_is, crate::proofs::Finds::sought_fits))]
+pub fn find_in(map: Map, bank: u8, location: u8) -> Finding
+    ensures { result ≡ accepted_find map.entry.bytes.now bank location }
 {
+    let Sought { found, count } = map.halve(bank, location);
     Finding {
-        number: number,
-        found: Found::Missing(Why::Absent),
-        count: 0,
+        found,
+        count: count as u8,
     }
 }
 
 // Which value holds the location, or why none does; and how many records the look-up examined.
-#[tactic(auto, using(records::proofs::Ordered::zero_ordered, crate::proofs::Finds::find_refused, crate::proofs::Finds::find_sought))]
-pub fn find(map: &[u8], bank: u8, location: u8) -> Finding
+#[tactic(auto, using(crate::proofs::Finds::find_found))]
+pub fn find(map: &[u8], bank: u8, location: u8) -> Result<Finding, Refusal>
     ensures { FindPromise map.now bank location result }
 {
-    let number = order_number(map);
-    if number != 0 {
-        return refused(number);
-    }
-    let sought = halve(map, bank, location);
-    let found = sought.found;
-    Finding {
-        number: 0,
-        found: found,
-        count: sought.count as u8,
-    }
+    let map = Map::new(map)?;
+    Ok(find_in(map, bank, location))
 }

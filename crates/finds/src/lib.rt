@@ -1,7 +1,7 @@
 // The find calls: which value holds a location, or why none does, and how many records were examined.
 #![tactic(auto)]
 
-mod found; // number, answer and count
+mod found; // the answer and its count
 mod worded; // as one number, for banks and locations of any size
 
 pub use found::{Finding, find};

@@ -6,10 +6,14 @@ use Prim.Native.Nat.{ℕ, ◌+◌, ◌-◌, ◌*◌, ◌^◌, ◌%◌, ◌/◌, 
 use native.Mathlib.Omega.{arith}
 use lib.Dec.{ltb, lit≤, lit<}
 use borrow.Author.Tests.{lt-ltb, ltb-true, eqb-true}
-use Rattle.std.specs.Prelude.{if◌then◌else◌}
+use Rattle.std.specs.Prelude.{if◌then◌else◌, Option, Some, None, Result, Ok, Err}
 use Rattle.laws.specs.Bits.{bits, bit}
 use Rattle.laws.proofs.Tests.{if_by, if_lt, if_eq, both}
 use Rattle.laws.proofs.Bits.{above_all, above_none, cut, small, bits_is}
+use Rattle.refusals.specs.Numbers.{number_of}
+use Rattle.refusals.specs.declared.refusal.Refusal.{Refusal}
+use Rattle.refusals.specs.declared.refusal.Refusal.TheVariants.{OutOfRange}
+use Rattle.refusals.proofs.Told.{numbers_in_range}
 use Rattle.frames.specs.Values.{target_number, field_present, field_value, writing_word, WritingFits}
 use Rattle.frames.specs.Read.{address_of, target_of, aimed, addressed, command_of, scheme_of, first_field, field_of}
 use Rattle.frames.specs.Read.{powered, power_of, other_of, schemed, event_of, read_of}
@@ -18,14 +22,9 @@ use Rattle.frames.specs.Write.{message_fits, bytes_frame, event_frame, power_fra
 use Rattle.frames.specs.Promises.{WritesBack, ReadsBack, OneMessage, WritingsFit, LowByte}
 use Rattle.frames.specs.declared.message.Address.{Address}
 use Rattle.frames.specs.declared.message.Addressed.{Addressed}
-use Rattle.frames.specs.declared.message.Field.{Field}
-use Rattle.frames.specs.declared.message.Fielded.{Fielded}
 use Rattle.frames.specs.declared.message.Message.{Message}
-use Rattle.frames.specs.declared.message.Reading.{Reading}
 use Rattle.frames.specs.declared.message.Scheme.{Scheme}
-use Rattle.frames.specs.declared.message.Schemed.{Schemed}
-use Rattle.frames.specs.declared.message.Targeted.{Targeted}
-use Rattle.frames.specs.declared.message.Writing.{Writing}
+use Rattle.frames.specs.declared.message.Target.{Target}
 use Rattle.frames.proofs.Bytes.{address_back, address_back_lem, target_back, target_back_lem, address_forth}
 use Rattle.frames.proofs.Bytes.{special_forth, target_forth}
 
@@ -78,12 +77,12 @@ module _ (f : ℕ) (frame : f < 2 ^ 24) where
         cut f 23 17 (lit≤ tt),
       )
 
--- what was read writes back, and no refusal has the number 0
-abbrev Back : ℕ → Reading → Type 0
-Back f (Reading.Got m) = write_of m ≡ Writing.Frame f
-Back f (Reading.Refused n) = 0 < n
+-- what was read writes back
+abbrev Back : ℕ → Result Message Refusal → Type 0
+Back f (Ok m) = write_of m ≡ Ok f
+Back f (Err e) = Unit {0}
 
-pub written : (m : Message) (f : ℕ) → message_fits m ≡ true → frame_of m ≡ f → write_of m ≡ Writing.Frame f
+pub written : (m : Message) (f : ℕ) → message_fits m ≡ true → frame_of m ≡ f → write_of m ≡ Ok f
 unfolding write_of
 written m f p q = simp (p, q)
 
@@ -103,10 +102,10 @@ command_back f frame odd = go (address_of a) (address_back_lem a (small f 23 16)
     sum : f ≡ o + 256 * i + 65536 * a
     sum = (command_sum f frame).0
 
-    aim : (x : Address) → address_back a (Addressed.To x) ≡ true →
-        (t : Targeted) → target_back i t ≡ true → Back f (aimed x t o)
-    aim x p Targeted.Reserved q = lit< tt
-    aim x p (Targeted.At t) q =
+    aim : (x : Address) → address_back a (Ok (Addressed.To x)) ≡ true →
+        (t : Option Target) → target_back i t ≡ true → Back f (aimed x t o)
+    aim x p None q = tt
+    aim x p (Some t) q =
         let pa = both (address_fits x) _ p in
         let ea : address_byte x ≡ a = eqb-true _ _ pa.1 in
         let pt = both (ltb (target_number t) 32) _ q in
@@ -117,9 +116,9 @@ command_back f frame odd = go (address_of a) (address_back_lem a (small f 23 16)
           pt.0,
         )) (simp (ea, et) (omega (arith, sum)))
 
-    go : (x : Addressed) → address_back a x ≡ true → Back f (addressed x i o)
-    go Addressed.Reserved p = lit< tt
-    go (Addressed.Special s) p =
+    go : (x : Result Addressed Refusal) → address_back a x ≡ true → Back f (addressed x i o)
+    go (Err e) p = tt
+    go (Ok (Addressed.Special s)) p =
         let q = both (ltb s 16) _ p in
         let e : 0xC1 + s * 2 ≡ a = eqb-true _ _ q.1 in
         written (Message.Special s i o) f (simp (
@@ -127,12 +126,12 @@ command_back f frame odd = go (address_of a) (address_back_lem a (small f 23 16)
           lt-ltb o 256 (small f 7 0),
           q.0,
         )) (simp e (omega (arith, sum)))
-    go (Addressed.To x) p = aim x p (target_of i) (target_back_lem i (small f 15 8))
+    go (Ok (Addressed.To x)) p = aim x p (target_of i) (target_back_lem i (small f 15 8))
 
 -- a bit and its field
-abbrev FieldBack : ℕ → ℕ → Fielded → Type 0
-FieldBack b v (Fielded.Is x) = (field_present x ≡ b) × (field_value x ≡ v)
-FieldBack b v Fielded.NotBlank = Unit {0}
+abbrev FieldBack : ℕ → ℕ → Result (Option ℕ) Refusal → Type 0
+FieldBack b v (Ok x) = (field_present x ≡ b) × (field_value x ≡ v)
+FieldBack b v (Err e) = Unit {0}
 
 field_back : (b v : ℕ) → b < 2 → FieldBack b v (field_of b v)
 unfolding field_of
@@ -146,22 +145,22 @@ power_back f frame even high low =
     go (field_of (bit f 12) (bits f 11 7)) (field_of (bit f 6) (bits f 5 0))
     (field_back _ _ (small f 12 12)) (field_back _ _ (small f 6 6))
   where
-    go : (x y : Fielded) → FieldBack (bit f 12) (bits f 11 7) x → FieldBack (bit f 6) (bits f 5 0) y
+    go : (x y : Result (Option ℕ) Refusal) → FieldBack (bit f 12) (bits f 11 7) x → FieldBack (bit f 6) (bits f 5 0) y
         → Back f (powered x y)
-    go Fielded.NotBlank y p q = lit< tt
-    go (Fielded.Is x) Fielded.NotBlank p q = lit< tt
-    go (Fielded.Is x) (Fielded.Is y) p q =
+    go (Err e) y p q = tt
+    go (Ok x) (Err e) p q = tt
+    go (Ok x) (Ok y) p q =
         written (Message.Power x y) f
         (simp (p.1, q.1, lt-ltb (bits f 11 7) 32 (small f 11 7), lt-ltb (bits f 5 0) 64 (small f 5 0)))
         (simp (p.0, p.1, q.0, q.1) (omega (arith, power_sum f frame)))
 
 -- what bits 23, 22 and 15 were read as: the scheme's bits, and its first field
-abbrev SchemeBack : ℕ → Schemed → Type 0
-SchemeBack f (Schemed.By s) =
+abbrev SchemeBack : ℕ → Option Scheme → Type 0
+SchemeBack f (Some s) =
     (first_field s f < scheme_limit s)
     × (scheme_bits s + 131072 * first_field s f
     ≡ 32768 * bit f 15 + 131072 * bits f 21 17 + 4194304 * bit f 22 + 8388608 * bit f 23)
-SchemeBack f Schemed.Other = Unit {0}
+SchemeBack f None = Unit {0}
 
 scheme_back : (f : ℕ) → f < 2 ^ 24 → SchemeBack f (scheme_of (bit f 23) (bit f 22) (bit f 15))
 unfolding scheme_of
@@ -180,12 +179,12 @@ event_back : (f : ℕ) → f < 2 ^ 24 → bit f 16 ≡ 0 → Back f (event_of f)
 unfolding event_of other_of event_fits event_frame
 event_back f frame even = go (scheme_of (bit f 23) (bit f 22) (bit f 15)) (scheme_back f frame)
   where
-    go : (x : Schemed) → SchemeBack f x → Back f (schemed x f)
-    go Schemed.Other p =
+    go : (x : Option Scheme) → SchemeBack f x → Back f (schemed x f)
+    go None p =
         if_eq (Back f) (bits f 23 17) 0x7F
-        (λ h. if_eq (Back f) (bits f 15 13) 7 (λ l. power_back f frame even h l) (λ l. lit< tt))
-        (λ h. lit< tt)
-    go (Schemed.By s) p =
+        (λ h. if_eq (Back f) (bits f 15 13) 7 (λ l. power_back f frame even h l) (λ l. tt))
+        (λ h. tt)
+    go (Some s) p =
         written (Message.Event s (first_field s f) (bits f 14 10) (bits f 9 0)) f
         (simp (
           lt-ltb (first_field s f) (scheme_limit s) p.0,
@@ -200,14 +199,10 @@ read_back f =
     if_lt (Back f) f _
     (λ h. let frame : f < 2 ^ 24 = omega arith in
     if_eq (Back f) (bit f 16) 1 (command_back f frame) (λ n. event_back f frame (omega (arith, small f 16 16))))
-    (λ l. lit< tt)
+    (λ l. tt)
 
 pub writes_back : WritesBack
 writes_back f m e = subst (Back f) e (read_back f)
-
--- the reader refuses nothing with 0
-pub read_not_0 : (f : ℕ) → read_of f ≡ Reading.Refused 0 → ⊥
-read_not_0 f e = let z : 0 < 0 = subst (Back f) e (read_back f) in omega arith
 
 -- reading a frame that is given as a sum: a command
 command_read : (f a i o : ℕ) → f ≡ bytes_frame a i o → a < 256 → a % 2 ≡ 1 → i < 256 → o < 256 →
@@ -243,7 +238,7 @@ module _ (f rest : ℕ) (tail : rest < 32768) where
 
   -- a scheme is read from its bits, and its first field from its place
   scheme_forth : (s : Scheme) (x : ℕ) → x < scheme_limit s → f ≡ scheme_bits s + x * 131072 + rest →
-      (scheme_of (bit f 23) (bit f 22) (bit f 15) ≡ Schemed.By s) × (first_field s f ≡ x) × (bit f 16 ≡ 0)
+      (scheme_of (bit f 23) (bit f 22) (bit f 15) ≡ Some s) × (first_field s f ≡ x) × (bit f 16 ≡ 0)
   unfolding scheme_of
   scheme_forth Scheme.TypeNumber x h e =
       let t = tops 1 0 x 1 (omega arith) (omega arith) h (omega arith) (omega arith) in (t.0, t.2, t.3)
@@ -267,7 +262,7 @@ scheme_top Scheme.GroupType x h = (256 + x * 4, omega arith, omega arith)
 scheme_top Scheme.PrimaryType x h = (384 + x * 4, omega arith, omega arith)
 
 event_read : (s : Scheme) (x y i : ℕ) → event_fits s x y i ≡ true →
-    read_of (event_frame (scheme_bits s) x y i) ≡ Reading.Got (Message.Event s x y i)
+    read_of (event_frame (scheme_bits s) x y i) ≡ Ok (Message.Event s x y i)
 unfolding read_of event_of event_fits event_frame
 event_read s x y i fits =
     let p = both (ltb x (scheme_limit s)) _ fits in
@@ -307,13 +302,13 @@ power_read f a g b s e ha hg hb hs =
     )
 
 -- a field is read from its bit and its value
-pub field_forth : (x : Field) → (field_of (field_present x) (field_value x) ≡ Fielded.Is x) × (field_present x < 2)
+pub field_forth : (x : Option ℕ) → (field_of (field_present x) (field_value x) ≡ Ok x) × (field_present x < 2)
 unfolding field_of
-field_forth Field.Blank = (refl, lit< tt)
-field_forth (Field.Holds v) = (refl, lit< tt)
+field_forth None = (refl, lit< tt)
+field_forth (Some v) = (refl, lit< tt)
 
 -- a message that fits is read from its frame
-message_read : (m : Message) → message_fits m ≡ true → read_of (frame_of m) ≡ Reading.Got m
+message_read : (m : Message) → message_fits m ≡ true → read_of (frame_of m) ≡ Ok m
 unfolding power_frame
 message_read (Message.Command a t o) e =
     let p = both (ltb o 256) _ e in
@@ -339,21 +334,13 @@ message_read (Message.Power g s) e =
     x.1 (ltb-true _ _ p.0) y.1 (ltb-true _ _ p.1)
     ∙ simp (x.0, y.0)
 
--- the writer refuses nothing with 0
-pub write_not_0 : (m : Message) → write_of m ≡ Writing.Refused 0 → ⊥
-unfolding write_of
-write_not_0 m =
-    if_by (λ w. w ≡ Writing.Refused 0 → ⊥) (message_fits m)
-    (λ _ q. let z : ◌≡◌ {A = ℕ} 0 1 = cc in omega arith)
-    (λ _ q. let z : ◌≡◌ {A = ℕ} 6 0 = cc in omega arith)
-
 -- what a written frame says of its message
-pub write_says : (m : Message) (f : ℕ) → write_of m ≡ Writing.Frame f → (message_fits m ≡ true) × (frame_of m ≡ f)
+pub write_says : (m : Message) (f : ℕ) → write_of m ≡ Ok f → (message_fits m ≡ true) × (frame_of m ≡ f)
 unfolding write_of
 write_says m f e = go (message_fits m) refl e
   where
     go : (t : Bool) → message_fits m ≡ t
-        → (if t then Writing.Frame (frame_of m) else Writing.Refused 6) ≡ Writing.Frame f →
+        → (if t then Ok (frame_of m) else Err OutOfRange) ≡ Ok f →
         (message_fits m ≡ true) × (frame_of m ≡ f)
     go true p q = (p, cc)
     go false p q = let z : ◌≡◌ {A = ℕ} 0 1 = cc in absurd (omega arith)
@@ -366,23 +353,23 @@ reads_back m f e =
 frame_below : (m : Message) → message_fits m ≡ true → frame_of m < 2 ^ 24
 unfolding read_of
 frame_below m e =
-    if_lt (λ r. r ≡ Reading.Got m → frame_of m < 2 ^ 24) (frame_of m) _ (λ h q. omega arith)
+    if_lt (λ r. r ≡ Ok m → frame_of m < 2 ^ 24) (frame_of m) _ (λ h q. omega arith)
     (λ l q. let z : ◌≡◌ {A = ℕ} 0 1 = cc in omega arith) (message_read m e)
 
 pub one_message : OneMessage
 unfolding write_of
 one_message m n e = if_by (λ w. writing_word (write_of m) ≡ writing_word w → m ≡ n) (message_fits n) same other
   where
-    word : writing_word (write_of m) ≡ writing_word (Writing.Frame (frame_of m))
+    word : writing_word (write_of m) ≡ writing_word (Ok (frame_of m))
     word = ap writing_word (written m (frame_of m) e refl)
 
-    same : message_fits n ≡ true → writing_word (write_of m) ≡ writing_word (Writing.Frame (frame_of n)) → m ≡ n
+    same : message_fits n ≡ true → writing_word (write_of m) ≡ writing_word (Ok (frame_of n)) → m ≡ n
     same g q =
         let s : frame_of m ≡ frame_of n = omega (arith, sym word ∙ q) in
-        let p : Reading.Got m ≡ Reading.Got n = sym (message_read m e) ∙ ap read_of s ∙ message_read n g in
+        let p : Ok m ≡ Ok n = sym (message_read m e) ∙ ap read_of s ∙ message_read n g in
         cc
 
-    other : message_fits n ≡ false → writing_word (write_of m) ≡ writing_word (Writing.Refused 6) → m ≡ n
+    other : message_fits n ≡ false → writing_word (write_of m) ≡ writing_word (Err OutOfRange) → m ≡ n
     other g q = absurd (omega (arith, sym word ∙ q))
 
 pub writings_fit : WritingsFit
@@ -390,5 +377,7 @@ unfolding write_of
 writings_fit m = if_by WritingFits (message_fits m) (frame_below m) (λ _. omega arith)
 
 pub low_byte : LowByte
-low_byte (Writing.Frame f) h = bits_is _ 7 0 f 0 0 (omega arith) h (omega arith)
-low_byte (Writing.Refused n) h = bits_is _ 7 0 0 n 0 (omega arith) h (omega arith)
+low_byte (Ok f) = bits_is _ 7 0 f 0 0 (omega arith) (lit< tt) (omega arith)
+low_byte (Err e) =
+    let h = (numbers_in_range e).1 in
+    bits_is _ 7 0 0 (number_of e) 0 (omega arith) (omega arith) (omega arith)

@@ -1,22 +1,22 @@
 -- The promises about the definitions. They are proved in proofs/: Round and Settled.
 -- Assumes nothing.
-use Rattle.std.specs.Prelude.{◌≡◌, true, ℕ, ◌^◌, ◌<◌}
+use Rattle.std.specs.Prelude.{◌≡◌, true, ℕ, Result, Ok}
 use Rattle.laws.specs.Bits.{bits}
 use Rattle.laws.specs.Settled.{Settles}
-use Rattle.frames.specs.Values.{writing_number, writing_word, WritingFits}
+use Rattle.refusals.specs.Numbers.{number_in}
+use Rattle.refusals.specs.declared.refusal.Refusal.{Refusal}
+use Rattle.frames.specs.Values.{writing_word, WritingFits}
 use Rattle.frames.specs.Read.{read_of}
 use Rattle.frames.specs.Write.{message_fits, write_of}
 use Rattle.frames.specs.declared.message.Message.{Message}
-use Rattle.frames.specs.declared.message.Reading.{Reading}
-use Rattle.frames.specs.declared.message.Writing.{Writing}
 
 -- every frame that reads writes back to itself
 abbrev pub WritesBack : Type 0
-WritesBack = (f : ℕ) (m : Message) → read_of f ≡ Reading.Got m → write_of m ≡ Writing.Frame f
+WritesBack = (f : ℕ) (m : Message) → read_of f ≡ Ok m → write_of m ≡ Ok f
 
 -- what is written reads back the same
 abbrev pub ReadsBack : Type 0
-ReadsBack = (m : Message) (f : ℕ) → write_of m ≡ Writing.Frame f → read_of f ≡ Reading.Got m
+ReadsBack = (m : Message) (f : ℕ) → write_of m ≡ Ok f → read_of f ≡ Ok m
 
 -- no two messages that write give one frame, and no refusal's number is a frame
 abbrev pub OneMessage : Type 0
@@ -28,13 +28,13 @@ WritingsFit = (m : Message) → WritingFits (write_of m)
 
 -- the low byte of a writing's word is its number
 abbrev pub LowByte : Type 0
-LowByte = (w : Writing) → writing_number w < 2 ^ 8 → bits (writing_word w) 7 0 ≡ writing_number w
+LowByte = (w : Result ℕ Refusal) → bits (writing_word w) 7 0 ≡ number_in w
 
 -- what each public call promises of its result r
-abbrev pub ReadPromise : ℕ → Reading → Type 0
+abbrev pub ReadPromise : ℕ → Result Message Refusal → Type 0
 ReadPromise frame r = r ≡ read_of frame
 
-abbrev pub WritePromise : Message → Writing → Type 0
+abbrev pub WritePromise : Message → Result ℕ Refusal → Type 0
 WritePromise message r = r ≡ write_of message
 
 -- results that meet the same promise are equal, for each public call

@@ -1,18 +1,17 @@
 -- When each number is given: paper 01, "Refusal numbers".
 -- Proved in proofs/: Refusals and Exactly.
 -- Assumes nothing.
-use Rattle.std.specs.Prelude.{◌≡◌, ◌↔◌, Bool, true, not, ◌&&◌, ◌||◌, List, [], ◌∷◌, ℕ, ◌<◌, ltb, eqb}
+use Rattle.std.specs.Prelude.{◌≡◌, ◌↔◌, Bool, true, not, ◌&&◌, ◌||◌, List, [], ◌∷◌, ℕ, ◌<◌, ltb, eqb, Result, Ok, Err}
 use Rattle.laws.specs.Bits.{bits, bit}
 use Rattle.laws.specs.Counts.{below, count}
 use Rattle.laws.specs.Lists.{every}
 use Rattle.laws.specs.Numbers.{Test, test, first_failing, Given}
+use Rattle.refusals.specs.Numbers.{number_of, number_in}
+use Rattle.refusals.specs.declared.refusal.Refusal.{Refusal}
 use Rattle.frames.specs.Kind.{kind_of}
-use Rattle.frames.specs.Values.{reading_number, writing_number}
 use Rattle.frames.specs.Read.{short_form, group_form, special_form, read_of}
 use Rattle.frames.specs.Write.{message_fits, write_of}
 use Rattle.frames.specs.declared.message.Message.{Message}
-use Rattle.frames.specs.declared.message.Reading.{Reading}
-use Rattle.frames.specs.declared.message.Writing.{Writing}
 
 -- bit 16 set means command, clear means event
 abbrev pub is_command : ℕ → Bool
@@ -66,30 +65,25 @@ reader_tests f =
     ∷ []
 
 abbrev pub ReaderNumbers : Type 0
-ReaderNumbers = (f : ℕ) → reading_number (read_of f) ≡ first_failing (reader_tests f)
+ReaderNumbers = (f : ℕ) → number_in (read_of f) ≡ first_failing (reader_tests f)
 
 -- 6: field out of range
 abbrev pub writer_tests : Message → List Test
 writer_tests m = test 6 (message_fits m) ∷ []
 
 abbrev pub WriterNumbers : Type 0
-WriterNumbers = (m : Message) → writing_number (write_of m) ≡ first_failing (writer_tests m)
+WriterNumbers = (m : Message) → number_in (write_of m) ≡ first_failing (writer_tests m)
 
 -- so each number is given exactly if every test before its own passes and its own fails; a message is got, and a frame
 -- written, exactly if all tests pass; and no refusal has the number 0
-pub record ReadingExactly (r : Reading) (ts : List Test) : Type 0 where
-  pub refused : (n : ℕ) → 0 < n → (r ≡ Reading.Refused n) ↔ Given ts n
-  pub got : ((m : Message) × (r ≡ Reading.Got m)) ↔ (every (λ t. t.passes) ts ≡ true)
-  pub not_0 : r ≡ Reading.Refused 0 → ⊥
-
-pub record WritingExactly (w : Writing) (ts : List Test) : Type 0 where
-  pub refused : (n : ℕ) → 0 < n → (w ≡ Writing.Refused n) ↔ Given ts n
-  pub frame : ((f : ℕ) × (w ≡ Writing.Frame f)) ↔ (every (λ t. t.passes) ts ≡ true)
-  pub not_0 : w ≡ Writing.Refused 0 → ⊥
+pub record AnswersExactly {T : Type 0} (r : Result T Refusal) (ts : List Test) : Type 0 where
+  pub refused : (n : ℕ) → 0 < n → ((e : Refusal) × (number_of e ≡ n) × (r ≡ Err e)) ↔ Given ts n
+  pub got : ((x : T) × (r ≡ Ok x)) ↔ (every (λ t. t.passes) ts ≡ true)
+  pub not_0 : (e : Refusal) → r ≡ Err e → 0 < number_of e
 
 pub record Exactly : Type 0 where
-  pub read : (f : ℕ) → ReadingExactly (read_of f) (reader_tests f)
-  pub write : (m : Message) → WritingExactly (write_of m) (writer_tests m)
+  pub read : (f : ℕ) → AnswersExactly (read_of f) (reader_tests f)
+  pub write : (m : Message) → AnswersExactly (write_of m) (writer_tests m)
 
 -- the other 14 odd bytes are reserved
 abbrev pub Reserved14 : Type 0

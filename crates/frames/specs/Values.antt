@@ -1,13 +1,11 @@
--- The number and the value of a target, a scheme and a field, and the case of a number and a value; and the number of
--- an answer.
+-- The number and the value of a target, a scheme and a field, and the case of a number and a value; and a writing as
+-- one number.
 -- Assumes nothing.
-use Rattle.std.specs.Prelude.{ℕ, ◌*◌, ◌^◌, ◌<◌, eqb, if◌then◌else◌}
-use Rattle.frames.specs.declared.message.Field.{Field}
-use Rattle.frames.specs.declared.message.Reading.{Reading}
+use Rattle.std.specs.Prelude.{ℕ, ◌*◌, ◌^◌, ◌<◌, eqb, if◌then◌else◌, Option, Some, None, Result, Ok, Err}
+use Rattle.refusals.specs.Numbers.{number_of}
+use Rattle.refusals.specs.declared.refusal.Refusal.{Refusal}
 use Rattle.frames.specs.declared.message.Scheme.{Scheme}
 use Rattle.frames.specs.declared.message.Target.{Target}
-use Rattle.frames.specs.declared.message.Targeted.{Targeted}
-use Rattle.frames.specs.declared.message.Writing.{Writing}
 
 abbrev pub target_number : Target → ℕ
 target_number (Target.InstanceNumber n) = n
@@ -22,20 +20,20 @@ target_number Target.FeatureAtInstanceBroadcast = 0
 target_number Target.Device = 0
 target_number Target.InstanceBroadcast = 0
 
-unfoldable pub target_at : ℕ → ℕ → Targeted
+unfoldable pub target_at : ℕ → ℕ → Option Target
 target_at kind n =
-    if eqb kind 1 then Targeted.At (Target.InstanceNumber n)
-    else if eqb kind 2 then Targeted.At (Target.InstanceGroup n)
-    else if eqb kind 3 then Targeted.At (Target.InstanceType n)
-    else if eqb kind 4 then Targeted.At (Target.FeatureAtNumber n)
-    else if eqb kind 5 then Targeted.At (Target.FeatureAtGroup n)
-    else if eqb kind 6 then Targeted.At (Target.FeatureAtType n)
-    else if eqb kind 7 then Targeted.At Target.FeatureBroadcast
-    else if eqb kind 8 then Targeted.At Target.DeviceFeature
-    else if eqb kind 9 then Targeted.At Target.FeatureAtInstanceBroadcast
-    else if eqb kind 10 then Targeted.At Target.Device
-    else if eqb kind 11 then Targeted.At Target.InstanceBroadcast
-    else Targeted.Reserved
+    if eqb kind 1 then Some (Target.InstanceNumber n)
+    else if eqb kind 2 then Some (Target.InstanceGroup n)
+    else if eqb kind 3 then Some (Target.InstanceType n)
+    else if eqb kind 4 then Some (Target.FeatureAtNumber n)
+    else if eqb kind 5 then Some (Target.FeatureAtGroup n)
+    else if eqb kind 6 then Some (Target.FeatureAtType n)
+    else if eqb kind 7 then Some Target.FeatureBroadcast
+    else if eqb kind 8 then Some Target.DeviceFeature
+    else if eqb kind 9 then Some Target.FeatureAtInstanceBroadcast
+    else if eqb kind 10 then Some Target.Device
+    else if eqb kind 11 then Some Target.InstanceBroadcast
+    else None
 
 unfoldable pub scheme_at : ℕ → Scheme
 scheme_at n =
@@ -45,29 +43,20 @@ scheme_at n =
     else if eqb n 3 then Scheme.GroupType
     else Scheme.PrimaryType
 
-abbrev pub field_present : Field → ℕ
-field_present Field.Blank = 0
-field_present (Field.Holds v) = 1
+abbrev pub field_present : Option ℕ → ℕ
+field_present None = 0
+field_present (Some v) = 1
 
-abbrev pub field_value : Field → ℕ
-field_value Field.Blank = 0
-field_value (Field.Holds v) = v
-
--- the number of an answer: 0 where it is no refusal
-abbrev pub reading_number : Reading → ℕ
-reading_number (Reading.Got m) = 0
-reading_number (Reading.Refused n) = n
-
-abbrev pub writing_number : Writing → ℕ
-writing_number (Writing.Frame f) = 0
-writing_number (Writing.Refused n) = n
+abbrev pub field_value : Option ℕ → ℕ
+field_value None = 0
+field_value (Some v) = v
 
 -- a writing as one number, number | frame << 8: the low byte is the number, 0 with a frame
-abbrev pub writing_word : Writing → ℕ
-writing_word (Writing.Frame f) = f * 2 ^ 8
-writing_word (Writing.Refused n) = n
+abbrev pub writing_word : Result ℕ Refusal → ℕ
+writing_word (Ok f) = f * 2 ^ 8
+writing_word (Err e) = number_of e
 
 -- a frame has 24 bits, a number eight
-abbrev pub WritingFits : Writing → Type 0
-WritingFits (Writing.Frame f) = f < 2 ^ 24
-WritingFits (Writing.Refused n) = n < 2 ^ 8
+abbrev pub WritingFits : Result ℕ Refusal → Type 0
+WritingFits (Ok f) = f < 2 ^ 24
+WritingFits (Err e) = number_of e < 2 ^ 8

@@ -1,13 +1,13 @@
 -- The frame that a message is written as: paper 01, "Frames", and refusal 6.
 -- Assumes nothing.
-use Rattle.std.specs.Prelude.{ℕ, ◌+◌, ◌*◌, ◌^◌, Bool, true, ◌&&◌, ltb, if◌then◌else◌}
+use Rattle.std.specs.Prelude.{ℕ, ◌+◌, ◌*◌, ◌^◌, Bool, true, ◌&&◌, ltb, if◌then◌else◌, Option, Result, Ok, Err}
+use Rattle.refusals.specs.declared.refusal.Refusal.{Refusal}
+use Rattle.refusals.specs.declared.refusal.Refusal.TheVariants.{OutOfRange}
 use Rattle.frames.specs.Values.{target_number, field_present, field_value}
 use Rattle.frames.specs.declared.message.Address.{Address}
-use Rattle.frames.specs.declared.message.Field.{Field}
 use Rattle.frames.specs.declared.message.Message.{Message}
 use Rattle.frames.specs.declared.message.Scheme.{Scheme}
 use Rattle.frames.specs.declared.message.Target.{Target}
-use Rattle.frames.specs.declared.message.Writing.{Writing}
 
 -- 0aaaaaa1 short address; 10ggggg1 device group; 0xFD broadcast unaddressed; 0xFF broadcast
 abbrev pub address_byte : Address → ℕ
@@ -71,7 +71,7 @@ unfoldable pub event_frame : ℕ → ℕ → ℕ → ℕ → ℕ
 event_frame fixed first second information = fixed + first * 2 ^ 17 + second * 2 ^ 10 + information
 
 -- bit 12 says that 11..7 hold the lowest device group, bit 6 that 5..0 hold the short address
-unfoldable pub power_frame : Field → Field → ℕ
+unfoldable pub power_frame : Option ℕ → Option ℕ → ℕ
 power_frame g s = 0xFEE000 + (field_present g * 2 ^ 12 + field_value g * 2 ^ 7) + (field_present s * 2 ^ 6 + field_value s)
 
 -- 110ssss1 special
@@ -82,5 +82,5 @@ frame_of (Message.Event s x y i) = event_frame (scheme_bits s) x y i
 frame_of (Message.Power g s) = power_frame g s
 
 -- 6: a field out of range
-unfoldable pub write_of : Message → Writing
-write_of m = if message_fits m then Writing.Frame (frame_of m) else Writing.Refused 6
+unfoldable pub write_of : Message → Result ℕ Refusal
+write_of m = if message_fits m then Ok (frame_of m) else Err OutOfRange

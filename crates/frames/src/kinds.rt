@@ -3,6 +3,7 @@ ghost use Rattle.std.specs.Prelude.{◌≡◌};
 ghost use Rattle.frames.specs.Kind.{kind_of};
 
 // The kind of each of the 256 instance bytes.
+// Kept: what may not change: a kind is a number in the paper's table of kinds, and `frames:kind_of` states it so.
 const KINDS: [u8; 256] = [
     1, 1, 1, 1, 1, 1, 1, 1, 1, 1, 1, 1, 1, 1, 1, 1, 1, 1, 1, 1, 1, 1, 1, 1, 1, 1, 1, 1, 1, 1, 1, 1,
     4, 4, 4, 4, 4, 4, 4, 4, 4, 4, 4, 4, 4, 4, 4, 4, 4, 4, 4, 4, 4, 4, 4, 4, 4, 4, 4, 4, 4, 4, 4, 4,
@@ -15,7 +16,6 @@ const KINDS: [u8; 256] = [
     11,
 ];
 
-#[tactic(auto, using(laws::proofs::Table::at), unfolding(crate::specs::Kind::kind_of))]
 pub fn kind(byte: u8) -> u8
     ensures { result ≡ kind_of byte }
 {

@@ -2,13 +2,13 @@
 #![tactic(auto)]
 
 mod message; // the types
-mod values; // the number and the value of a target, a scheme and a field
+mod values; // the number of a target, and the target and the scheme of a number
 mod kinds; // the table of kinds
-mod places; // what a bit counts for
+mod places; // the bits of a number
 mod reader; // from a frame to a message
 mod writer; // from a message to a frame
 
-pub use message::{Address, Field, Message, Reading, Scheme, Target, Targeted, Writing};
+pub use message::{Address, Message, Scheme, Target};
 pub use reader::{aimed_at, read};
-pub use values::{field_present, field_value, scheme_at, target_at, target_number};
+pub use values::{scheme_at, target_at, target_number};
 pub use writer::write;

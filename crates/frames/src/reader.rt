@@ -5,180 +5,140 @@ ghost use Rattle.frames.specs.Read.{first_field, other_of, event_of};
 ghost use Rattle.frames.specs.Promises.{ReadPromise};
 
 use crate::kinds::kind;
-use crate::message::{
-    Address, Addressed, Field, Fielded, Message, Reading, Scheme, Schemed, Targeted,
-};
-use crate::places::{
-    BIT_6, BIT_7, BIT_8, BIT_10, BIT_12, BIT_13, BIT_15, BIT_16, BIT_17, BIT_22, BIT_23, BITS_1,
-    BITS_3, BITS_5, BITS_6, BITS_7, BITS_8, BITS_10, BYTE_BIT_1, BYTE_BIT_5, BYTE_BIT_6,
-    BYTE_BIT_7, BYTE_BITS_1, BYTE_BITS_2, BYTE_BITS_3, BYTE_BITS_4, BYTE_BITS_5, BYTE_BITS_6,
-};
+use crate::message::{Address, Addressed, Message, Scheme, Target};
+use crate::places::bits;
 use crate::values::target_at;
+use refusals::Refusal;
 
 // An odd address byte.
-#[tactic(auto, using(laws::proofs::Tests::tests), unfolding(crate::specs::Read::address_of, laws::specs::Bits::bits))]
-fn address_of(byte: u8) -> Addressed
+#[tactic(auto, unfolding(crate::specs::Read::address_of))]
+fn address_of(byte: u32) -> Result<Addressed, Refusal>
     ensures { result ≡ address_of byte }
 {
-    let one = byte / BYTE_BIT_7 % BYTE_BITS_1;
-    let two = byte / BYTE_BIT_6 % BYTE_BITS_2;
-    let three = byte / BYTE_BIT_5 % BYTE_BITS_3;
-    if one == 0 {
-        return Addressed::To(Address::Short(byte / BYTE_BIT_1 % BYTE_BITS_6));
+    if bits(byte, 7, 7) == 0 {
+        Ok(Addressed::To(Address::Short(bits(byte, 6, 1) as u8)))
+    } else if bits(byte, 7, 6) == 2 {
+        Ok(Addressed::To(Address::Group(bits(byte, 5, 1) as u8)))
+    } else if byte == 0xFD {
+        Ok(Addressed::To(Address::Unaddressed))
+    } else if byte == 0xFF {
+        Ok(Addressed::To(Address::Broadcast))
+    } else if bits(byte, 7, 5) == 6 {
+        Ok(Addressed::Special(bits(byte, 4, 1) as u8))
+    } else {
+        Err(Refusal::ReservedAddress)
     }
-    if two == 2 {
-        return Addressed::To(Address::Group(byte / BYTE_BIT_1 % BYTE_BITS_5));
-    }
-    if byte == 0xFD {
-        return Addressed::To(Address::Unaddressed);
-    }
-    if byte == 0xFF {
-        return Addressed::To(Address::Broadcast);
-    }
-    if three == 6 {
-        return Addressed::Special(byte / BYTE_BIT_1 % BYTE_BITS_4);
-    }
-    Addressed::Reserved
 }
 
 #[tactic(auto, unfolding(crate::specs::Read::target_of))]
-fn target_of(byte: u8) -> Targeted
+fn target_of(byte: u8) -> Option<Target>
     ensures { result ≡ target_of byte }
 {
-    target_at(kind(byte), byte % BYTE_BITS_5)
+    target_at(kind(byte), byte % 32)
 }
 
-pub fn aimed_at(address: Address, targeted: Targeted, opcode: u8) -> Reading
+pub fn aimed_at(address: Address, targeted: Option<Target>, opcode: u8) -> Result<Message, Refusal>
     ensures { result ≡ aimed address targeted opcode }
 {
-    match targeted {
-        Targeted::At(target) => Reading::Got(Message::Command(address, target, opcode)),
-        Targeted::Reserved => Reading::Refused(3),
-    }
+    let target = targeted.ok_or(Refusal::ReservedInstance)?;
+    Ok(Message::Command(address, target, opcode))
 }
 
-#[tactic(auto, unfolding(crate::specs::Read::command_of, laws::specs::Bits::bits))]
-fn read_command(frame: u32) -> Reading
+#[tactic(auto, unfolding(crate::specs::Read::command_of))]
+fn read_command(frame: u32) -> Result<Message, Refusal>
     ensures { result ≡ command_of frame }
 {
-    let instance = (frame / BIT_8 % BITS_8) as u8;
-    let opcode = (frame % BITS_8) as u8;
-    match address_of((frame / BIT_16 % BITS_8) as u8) {
+    let instance = bits(frame, 15, 8) as u8;
+    let opcode = bits(frame, 7, 0) as u8;
+    match address_of(bits(frame, 23, 16))? {
         Addressed::To(address) => aimed_at(address, target_of(instance), opcode),
-        Addressed::Special(number) => Reading::Got(Message::Special(number, instance, opcode)),
-        Addressed::Reserved => Reading::Refused(2),
+        Addressed::Special(number) => Ok(Message::Special(number, instance, opcode)),
     }
 }
 
 // The scheme of an event, by its bits 23, 22 and 15.
-#[tactic(auto, using(laws::proofs::Tests::tests), unfolding(crate::specs::Read::scheme_of))]
-fn scheme_of(b23: u32, b22: u32, b15: u32) -> Schemed
+#[tactic(auto, unfolding(crate::specs::Read::scheme_of))]
+fn scheme_of(b23: u32, b22: u32, b15: u32) -> Option<Scheme>
     ensures { result ≡ scheme_of b23 b22 b15 }
 {
-    if b23 == 0 {
-        if b15 == 0 {
-            return Schemed::By(Scheme::ShortType);
-        }
-        return Schemed::By(Scheme::ShortNumber);
+    match (b23, b22, b15) {
+        (0, _, 0) => Some(Scheme::ShortType),
+        (0, _, _) => Some(Scheme::ShortNumber),
+        (_, 0, 0) => Some(Scheme::GroupType),
+        (_, 0, _) => Some(Scheme::TypeNumber),
+        (_, _, 0) => Some(Scheme::PrimaryType),
+        _ => None,
     }
-    if b22 == 0 {
-        if b15 == 0 {
-            return Schemed::By(Scheme::GroupType);
-        }
-        return Schemed::By(Scheme::TypeNumber);
-    }
-    if b15 == 0 {
-        return Schemed::By(Scheme::PrimaryType);
-    }
-    Schemed::Other
 }
 
-#[tactic(auto, unfolding(laws::specs::Bits::bits))]
 fn first_field(scheme: Scheme, frame: u32) -> u8
     ensures { result ≡ first_field scheme frame }
 {
     match scheme {
-        Scheme::TypeNumber => (frame / BIT_17 % BITS_5) as u8,
-        Scheme::ShortType => (frame / BIT_17 % BITS_6) as u8,
-        Scheme::ShortNumber => (frame / BIT_17 % BITS_6) as u8,
-        Scheme::GroupType => (frame / BIT_17 % BITS_5) as u8,
-        Scheme::PrimaryType => (frame / BIT_17 % BITS_5) as u8,
+        Scheme::ShortType | Scheme::ShortNumber => bits(frame, 22, 17) as u8,
+        Scheme::TypeNumber | Scheme::GroupType | Scheme::PrimaryType => bits(frame, 21, 17) as u8,
     }
 }
 
 // A bit, and the field that it announces.
-#[tactic(auto, using(laws::proofs::Tests::tests), unfolding(crate::specs::Read::field_of))]
-fn field_of(announced: u32, value: u8) -> Fielded
+#[tactic(auto, unfolding(crate::specs::Read::field_of))]
+fn field_of(announced: u32, value: u8) -> Result<Option<u8>, Refusal>
     ensures { result ≡ field_of announced value }
 {
-    if announced == 1 {
-        return Fielded::Is(Field::Holds(value));
+    match (announced, value) {
+        (1, _) => Ok(Some(value)),
+        (_, 0) => Ok(None),
+        _ => Err(Refusal::BlankNotZero),
     }
-    if value == 0 {
-        return Fielded::Is(Field::Blank);
-    }
-    Fielded::NotBlank
 }
 
-#[tactic(auto, unfolding(crate::specs::Read::power_of, laws::specs::Bits::bits))]
-fn read_power(frame: u32) -> Reading
+#[tactic(auto, unfolding(crate::specs::Read::power_of, crate::specs::Read::field_of))]
+fn read_power(frame: u32) -> Result<Message, Refusal>
     ensures { result ≡ power_of frame }
 {
-    let group = (frame / BIT_7 % BITS_5) as u8;
-    let short = (frame % BITS_6) as u8;
-    let Fielded::Is(g) = field_of(frame / BIT_12 % BITS_1, group) else {
-        return Reading::Refused(5);
-    };
-    let Fielded::Is(s) = field_of(frame / BIT_6 % BITS_1, short) else {
-        return Reading::Refused(5);
-    };
-    Reading::Got(Message::Power(g, s))
+    let group = field_of(bits(frame, 12, 12), bits(frame, 11, 7) as u8)?;
+    let short = field_of(bits(frame, 6, 6), bits(frame, 5, 0) as u8)?;
+    Ok(Message::Power(group, short))
 }
 
 // Bits 23, 22 and 15 are ones: a power cycle event, or reserved.
-#[tactic(auto, using(laws::proofs::Tests::tests), unfolding(crate::specs::Read::other_of, laws::specs::Bits::bits))]
-fn read_other(frame: u32) -> Reading
+#[tactic(auto, unfolding(crate::specs::Read::other_of))]
+fn read_other(frame: u32) -> Result<Message, Refusal>
     ensures { result ≡ other_of frame }
 {
-    let high = frame / BIT_17 % BITS_7;
-    let low = frame / BIT_13 % BITS_3;
-    if high == 0x7F {
-        if low == 7 {
-            return read_power(frame);
-        }
+    match (bits(frame, 23, 17), bits(frame, 15, 13)) {
+        (0x7F, 7) => read_power(frame),
+        _ => Err(Refusal::ReservedEvent),
     }
-    Reading::Refused(4)
 }
 
-#[tactic(auto, unfolding(crate::specs::Read::event_of, laws::specs::Bits::bits))]
-fn read_event(frame: u32) -> Reading
+#[tactic(auto, unfolding(crate::specs::Read::event_of))]
+fn read_event(frame: u32) -> Result<Message, Refusal>
     ensures { result ≡ event_of frame }
 {
-    let second = (frame / BIT_10 % BITS_5) as u8;
-    let information = (frame % BITS_10) as u16;
-    match scheme_of(
-        frame / BIT_23 % BITS_1,
-        frame / BIT_22 % BITS_1,
-        frame / BIT_15 % BITS_1,
-    ) {
-        Schemed::By(scheme) => {
-            let first = first_field(scheme, frame);
-            Reading::Got(Message::Event(scheme, first, second, information))
-        }
-        Schemed::Other => read_other(frame),
-    }
+    let Some(scheme) = scheme_of(
+        bits(frame, 23, 23),
+        bits(frame, 22, 22),
+        bits(frame, 15, 15),
+    ) else {
+        return read_other(frame);
+    };
+    let first = first_field(scheme, frame);
+    let second = bits(frame, 14, 10) as u8;
+    let information = bits(frame, 9, 0) as u16;
+    Ok(Message::Event(scheme, first, second, information))
 }
 
-#[tactic(auto, using(laws::proofs::Tests::tests), unfolding(crate::specs::Read::read_of, laws::specs::Bits::bits))]
-pub fn read(frame: u32) -> Reading
+#[tactic(auto, unfolding(crate::specs::Read::read_of))]
+pub fn read(frame: u32) -> Result<Message, Refusal>
     ensures { ReadPromise frame result }
 {
-    if frame < 16777216 {
-        let b16 = frame / BIT_16 % BITS_1;
-        if b16 == 1 {
-            return read_command(frame);
-        }
-        return read_event(frame);
+    if frame >= 16777216 {
+        return Err(Refusal::FrameTooLarge);
     }
-    Reading::Refused(1)
+    if bits(frame, 16, 16) == 1 {
+        read_command(frame)
+    } else {
+        read_event(frame)
+    }
 }

@@ -1,48 +1,50 @@
-// The number and the value of a target, a scheme and a field, and the case of a number and a value.
-ghost use Rattle.std.specs.Prelude.{◌≡◌, ◌<◌};
-ghost use Rattle.frames.specs.Values.{target_number, target_at, scheme_at, field_present, field_value};
+// The number of a target, and the target and the scheme of a number.
+ghost use Rattle.std.specs.Prelude.{◌≡◌};
+ghost use Rattle.frames.specs.Values.{target_number, target_at, scheme_at};
 
-use crate::message::{Field, Scheme, Target, Targeted};
+use crate::message::{Scheme, Target};
 
 pub fn target_number(target: Target) -> u8
     ensures { result ≡ target_number target }
 {
     match target {
-        Target::InstanceNumber(n) => n,
-        Target::InstanceGroup(n) => n,
-        Target::InstanceType(n) => n,
-        Target::FeatureAtNumber(n) => n,
-        Target::FeatureAtGroup(n) => n,
-        Target::FeatureAtType(n) => n,
-        Target::FeatureBroadcast => 0,
-        Target::DeviceFeature => 0,
-        Target::FeatureAtInstanceBroadcast => 0,
-        Target::Device => 0,
-        Target::InstanceBroadcast => 0,
+        Target::InstanceNumber(n)
+        | Target::InstanceGroup(n)
+        | Target::InstanceType(n)
+        | Target::FeatureAtNumber(n)
+        | Target::FeatureAtGroup(n)
+        | Target::FeatureAtType(n) => n,
+        Target::FeatureBroadcast
+        | Target::DeviceFeature
+        | Target::FeatureAtInstanceBroadcast
+        | Target::Device
+        | Target::InstanceBroadcast => 0,
     }
 }
 
-#[tactic(auto, using(laws::proofs::Tests::tests), unfolding(crate::specs::Values::target_at))]
-pub fn target_at(kind: u8, number: u8) -> Targeted
+#[tactic(auto, unfolding(crate::specs::Values::target_at))]
+pub fn target_at(kind: u8, number: u8) -> Option<Target>
     ensures { result ≡ target_at kind number }
 {
     match kind {
-        1 => Targeted::At(Target::InstanceNumber(number)),
-        2 => Targeted::At(Target::InstanceGroup(number)),
-        3 => Targeted::At(Target::InstanceType(number)),
-        4 => Targeted::At(Target::FeatureAtNumber(number)),
-        5 => Targeted::At(Target::FeatureAtGroup(number)),
-        6 => Targeted::At(Target::FeatureAtType(number)),
-        7 => Targeted::At(Target::FeatureBroadcast),
-        8 => Targeted::At(Target::DeviceFeature),
-        9 => Targeted::At(Target::FeatureAtInstanceBroadcast),
-        10 => Targeted::At(Target::Device),
-        11 => Targeted::At(Target::InstanceBroadcast),
-        _ => Targeted::Reserved,
+        1 => Some(Target::InstanceNumber(number)),
+        2 => Some(Target::InstanceGroup(number)),
+        3 => Some(Target::InstanceType(number)),
+        4 => Some(Target::FeatureAtNumber(number)),
+        5 => Some(Target::FeatureAtGroup(number)),
+        6 => Some(Target::FeatureAtType(number)),
+        7 => Some(Target::FeatureBroadcast),
+        8 => Some(Target::DeviceFeature),
+        9 => Some(Target::FeatureAtInstanceBroadcast),
+        10 => Some(Target::Device),
+        11 => Some(Target::InstanceBroadcast),
+        _ => None,
     }
 }
 
-#[tactic(auto, using(laws::proofs::Tests::tests), unfolding(crate::specs::Values::scheme_at))]
+// Kept: what may not change: each number has a scheme (`frames:scheme_at`), which a TryFrom would not give it; the words of
+// no message are refused by `words:matched`.
+#[tactic(auto, unfolding(crate::specs::Values::scheme_at))]
 pub fn scheme_at(number: u8) -> Scheme
     ensures { result ≡ scheme_at number }
 {
@@ -52,24 +54,5 @@ pub fn scheme_at(number: u8) -> Scheme
         2 => Scheme::ShortNumber,
         3 => Scheme::GroupType,
         _ => Scheme::PrimaryType,
-    }
-}
-
-pub fn field_present(field: Field) -> u8
-    ensures same { result ≡ field_present field }
-    ensures small { result < 2 }
-{
-    match field {
-        Field::Blank => 0,
-        Field::Holds(_) => 1,
-    }
-}
-
-pub fn field_value(field: Field) -> u8
-    ensures { result ≡ field_value field }
-{
-    match field {
-        Field::Blank => 0,
-        Field::Holds(v) => v,
     }
 }

@@ -1,6 +1,6 @@
 -- The bytes of a frame that is read as a command.
 -- Assumes nothing.
-use Rattle.std.proofs.Common.{◌≡◌, ℕ, ◌+◌, ◌*◌, ◌<◌, ◌&&◌, ltb, arith, ltb-true}
+use Rattle.std.proofs.Common.{◌≡◌, ℕ, ◌+◌, ◌*◌, ◌<◌, ◌&&◌, ltb, arith, ltb-true, Some, Ok}
 use Rattle.laws.specs.Bits.{bits}
 use Rattle.laws.proofs.Bits.{bits_is}
 use Rattle.laws.proofs.Tests.{both}
@@ -8,9 +8,7 @@ use Rattle.frames.specs.Read.{target_of, read_of}
 use Rattle.frames.specs.Write.{address_fits, address_byte, target_byte, bytes_frame}
 use Rattle.frames.specs.declared.message.Address.{Address}
 use Rattle.frames.specs.declared.message.Message.{Message}
-use Rattle.frames.specs.declared.message.Reading.{Reading}
 use Rattle.frames.specs.declared.message.Target.{Target}
-use Rattle.frames.specs.declared.message.Targeted.{Targeted}
 use Rattle.frames.proofs.Bytes.{address_forth, target_forth}
 use Rattle.frames.proofs.Round.{writes_back, write_says}
 
@@ -25,8 +23,8 @@ module _ (f : ℕ) where
   )
 
   -- the instance byte, from which the target is read, and the opcode
-  pub command_bytes : (a : Address) (t : Target) (o : ℕ) → read_of f ≡ Reading.Got (Message.Command a t o) →
-      (bits f 15 8 ≡ target_byte t) × (bits f 7 0 ≡ o) × (target_of (target_byte t) ≡ Targeted.At t)
+  pub command_bytes : (a : Address) (t : Target) (o : ℕ) → read_of f ≡ Ok (Message.Command a t o) →
+      (bits f 15 8 ≡ target_byte t) × (bits f 7 0 ≡ o) × (target_of (target_byte t) ≡ Some t)
   command_bytes a t o e =
       let w = write_says (Message.Command a t o) f (writes_back f _ e) in
       let p = both (ltb o 256) _ w.0 in
@@ -36,7 +34,7 @@ module _ (f : ℕ) where
       let b = three (address_byte a) (target_byte t) o w.1 x.1 y.1 (ltb-true o 256 p.0) in
       (b.1, b.2, y.0)
 
-  pub special_bytes : (n i o : ℕ) → read_of f ≡ Reading.Got (Message.Special n i o) →
+  pub special_bytes : (n i o : ℕ) → read_of f ≡ Ok (Message.Special n i o) →
       (bits f 23 16 ≡ 0xC1 + 2 * n) × (bits f 15 8 ≡ i) × (bits f 7 0 ≡ o)
   special_bytes n i o e =
       let w = write_says (Message.Special n i o) f (writes_back f _ e) in

@@ -1,14 +1,14 @@
 -- What keeps write-enable, and what closes it.
 -- Assumes nothing.
-use Rattle.std.proofs.Common.{◌≡◌, ℕ, Bool, true, false, not, ◌⊎◌, List, [], ◌∷◌, ◌++◌, map, refl, ap, ◌∙◌, inl, inr, ⊎_elim}
+use Rattle.std.proofs.Common.{◌≡◌, ℕ, Bool, true, false, not, ◌⊎◌, List, [], ◌∷◌, ◌++◌, map, refl, ap, ◌∙◌, inl, inr, ⊎_elim, Result, Ok, Err}
 use mathlib.Core.List.{Memᴰ}
 use Rattle.laws.specs.Bits.{bits}
 use Rattle.laws.specs.Lists.{every}
 use Rattle.laws.proofs.Items.{every_at}
 use Rattle.laws.proofs.Tests.{if_by, clash, denied}
+use Rattle.refusals.specs.declared.refusal.Refusal.{Refusal}
 use Rattle.frames.specs.Read.{read_of}
 use Rattle.frames.specs.declared.message.Message.{Message}
-use Rattle.frames.specs.declared.message.Reading.{Reading}
 use Rattle.hearing.specs.Codes.{eleven_with, code_of}
 use Rattle.hearing.specs.Meaning.{Row, is_for, device_rows, device_command, first_rows, first_special, other_rows}
 use Rattle.hearing.specs.Meaning.{special_command, meaning_of, closes}
@@ -38,16 +38,17 @@ row_keeps (r ∷ rs) m (Memᴰ.tail i) =
     (λ e. row_keeps rs m i) (λ e. ⊎_elim inl (λ k. inr (Memᴰ.tail k)) (row_keeps rs m i))
 
 -- a frame is a command for the unit, or it is none
-command_or_not : (who : Who) (r : Reading) → (ToUnit who r ⊎ IsSpecial r) ⊎ (ToUnit who r ⊎ IsSpecial r → ⊥)
-command_or_not who (Reading.Got (Message.Command a t o)) = go (is_for who a)
+command_or_not : (who : Who) (r : Result Message Refusal)
+    → (ToUnit who r ⊎ IsSpecial r) ⊎ (ToUnit who r ⊎ IsSpecial r → ⊥)
+command_or_not who (Ok (Message.Command a t o)) = go (is_for who a)
   where
     go : (b : Bool) → ((b ≡ true) ⊎ ⊥) ⊎ ((b ≡ true) ⊎ ⊥ → ⊥)
     go true = inl (inl refl)
     go false = inr (λ u. ⊎_elim (λ e. clash false e refl) (λ v. v) u)
-command_or_not who (Reading.Got (Message.Special n i o)) = inl (inr tt)
-command_or_not who (Reading.Got (Message.Event c x y i)) = inr (λ u. ⊎_elim (λ v. v) (λ v. v) u)
-command_or_not who (Reading.Got (Message.Power g h)) = inr (λ u. ⊎_elim (λ v. v) (λ v. v) u)
-command_or_not who (Reading.Refused n) = inr (λ u. ⊎_elim (λ v. v) (λ v. v) u)
+command_or_not who (Ok (Message.Special n i o)) = inl (inr tt)
+command_or_not who (Ok (Message.Event c x y i)) = inr (λ u. ⊎_elim (λ v. v) (λ v. v) u)
+command_or_not who (Ok (Message.Power g h)) = inr (λ u. ⊎_elim (λ v. v) (λ v. v) u)
+command_or_not who (Err refusal) = inr (λ u. ⊎_elim (λ v. v) (λ v. v) u)
 
 module _ (who : Who) (f : ℕ) where
   -- each of the eleven keeps

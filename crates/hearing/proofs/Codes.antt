@@ -1,11 +1,11 @@
 -- The bytes of every frame that means a listed command are those of paper 01.
 -- Assumes nothing.
-use Rattle.std.proofs.Common.{◌≡◌, ℕ, ◌+◌, ◌*◌, ◌⊎◌, List, [], ◌∷◌, map, refl, ap, ◌∙◌, inl, inr, ⊎_elim}
+use Rattle.std.proofs.Common.{◌≡◌, ℕ, ◌+◌, ◌*◌, ◌⊎◌, List, [], ◌∷◌, map, refl, ap, ◌∙◌, inl, inr, ⊎_elim, Result, Ok, Err}
 use Rattle.laws.proofs.Tests.{if_by, if_eq}
+use Rattle.refusals.specs.declared.refusal.Refusal.{Refusal}
 use Rattle.frames.specs.Read.{read_of}
 use Rattle.frames.specs.Write.{target_byte}
 use Rattle.frames.specs.declared.message.Message.{Message}
-use Rattle.frames.specs.declared.message.Reading.{Reading}
 use Rattle.frames.specs.declared.message.Target.{Target}
 use Rattle.hearing.specs.Codes.{Code, none, device, special, code_of, StandsIn}
 use Rattle.hearing.specs.Meaning.{Row, listed, device_rows, device_command, first_rows, first_special, other_rows}
@@ -57,8 +57,8 @@ stands f d c (inr e) s = rw e s
 
 module _ (who : Who) (f : ℕ) where
   -- what a reading means stands in the frame
-  right : (r : Reading) → read_of f ≡ r → StandsIn (code_of (reading_meaning who r)) f
-  right (Reading.Got (Message.Command a t o)) e =
+  right : (r : Result Message Refusal) → read_of f ≡ r → StandsIn (code_of (reading_meaning who r)) f
+  right (Ok (Message.Command a t o)) e =
       let b = command_bytes f a t o e in
       if_by (λ m. StandsIn (code_of m) f) (is_for who a)
       (λ p. ⊎_elim
@@ -66,11 +66,11 @@ module _ (who : Who) (f : ℕ) where
       (λ q. rw q tt)
       (only_device t o))
       (λ p. tt)
-  right (Reading.Got (Message.Special n i o)) e =
+  right (Ok (Message.Special n i o)) e =
       stands f (special (0xC1 + 2 * n) i o) _ (special_code n i o) (special_bytes f n i o e)
-  right (Reading.Got (Message.Event s x y i)) e = tt
-  right (Reading.Got (Message.Power g s)) e = tt
-  right (Reading.Refused n) e = tt
+  right (Ok (Message.Event s x y i)) e = tt
+  right (Ok (Message.Power g s)) e = tt
+  right (Err refusal) e = tt
 
 pub code_stands : CodeStands
 unfolding meaning_of

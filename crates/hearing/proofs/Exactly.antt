@@ -1,6 +1,6 @@
 -- The four answers, each exactly if: a listed command is meant exactly if the frame is one for the unit with its bytes.
 -- Assumes nothing.
-use Rattle.std.proofs.Common.{◌≡◌, ℕ, ◌+◌, ◌-◌, ◌*◌, ◌/◌, Bool, true, false, not, ◌⊎◌, List, [], ◌∷◌, ◌++◌, map, sym, refl, ap, ◌∙◌, subst, inl, inr, ⊎_elim, true≢false, arith}
+use Rattle.std.proofs.Common.{◌≡◌, ℕ, ◌+◌, ◌-◌, ◌*◌, ◌/◌, Bool, true, false, not, ◌⊎◌, List, [], ◌∷◌, ◌++◌, map, sym, refl, ap, ◌∙◌, subst, inl, inr, ⊎_elim, true≢false, arith, Some, Result, Ok, Err}
 use mathlib.Core.Bool.{false≢true}
 use mathlib.Core.List.{Memᴰ}
 use Rattle.laws.specs.Bits.{bits}
@@ -8,14 +8,13 @@ use Rattle.laws.specs.Lists.{every}
 use Rattle.laws.proofs.Tests.{if_by, if_eq, denied}
 use Rattle.laws.proofs.Items.{every_at}
 use Rattle.laws.proofs.Choosing.{refuted}
+use Rattle.refusals.specs.declared.refusal.Refusal.{Refusal}
 use Rattle.frames.specs.Kind.{kind_of}
 use Rattle.frames.specs.Values.{target_at}
 use Rattle.frames.specs.Read.{target_of, read_of}
 use Rattle.frames.specs.Write.{target_byte}
 use Rattle.frames.specs.declared.message.Message.{Message}
-use Rattle.frames.specs.declared.message.Reading.{Reading}
 use Rattle.frames.specs.declared.message.Target.{Target}
-use Rattle.frames.specs.declared.message.Targeted.{Targeted}
 use Rattle.hearing.specs.Codes.{Code, none, device, special, listed_with, code_of, StandsIn}
 use Rattle.hearing.specs.Meaning.{Row, listed, device_rows, device_command, first_rows, first_special, other_rows}
 use Rattle.hearing.specs.Meaning.{special_command, is_for, command_at, reading_meaning, meaning_of}
@@ -106,35 +105,35 @@ known_home i o m (inl p) q = true≢false (ap is_foreign (sym q ∙ p))
 known_home i o m (inr k) q =
     true≢false (ap is_foreign (sym q) ∙ denied _ (every_at (λ m. not (is_foreign m)) (listed_with i o) refl m k))
 
-device_target : target_of 0xFE ≡ Targeted.At Target.Device
+device_target : target_of 0xFE ≡ Some Target.Device
 unfolding target_of target_at kind_of
 device_target = refl
 
 module _ (who : Who) (f : ℕ) where
   -- what is asked for is meant
-  device_means : (r : Reading) → read_of f ≡ r → ToUnit who r → (o : ℕ) → StandsIn (device o) f
+  device_means : (r : Result Message Refusal) → read_of f ≡ r → ToUnit who r → (o : ℕ) → StandsIn (device o) f
       → reading_meaning who r ≡ device_command o
-  device_means (Reading.Got (Message.Command a t p)) e u o s =
+  device_means (Ok (Message.Command a t p)) e u o s =
       let b = command_bytes f a t p e in
-      let d : Targeted.At t ≡ Targeted.At Target.Device =
+      let d : Some t ≡ Some Target.Device =
       sym b.2 ∙ ap target_of (sym b.0 ∙ s.0) ∙ device_target in
       let t-is : t ≡ Target.Device = cc in
       rw (u, t-is, sym b.1 ∙ s.1)
-  device_means (Reading.Got (Message.Special n i p)) e u o s = absurd u
-  device_means (Reading.Got (Message.Event c x y i)) e u o s = absurd u
-  device_means (Reading.Got (Message.Power g h)) e u o s = absurd u
-  device_means (Reading.Refused n) e u o s = absurd u
+  device_means (Ok (Message.Special n i p)) e u o s = absurd u
+  device_means (Ok (Message.Event c x y i)) e u o s = absurd u
+  device_means (Ok (Message.Power g h)) e u o s = absurd u
+  device_means (Err refusal) e u o s = absurd u
 
-  special_means : (r : Reading) → read_of f ≡ r → IsSpecial r → (a i o : ℕ) → StandsIn (special a i o) f
+  special_means : (r : Result Message Refusal) → read_of f ≡ r → IsSpecial r → (a i o : ℕ) → StandsIn (special a i o) f
       → reading_meaning who r ≡ special_command ((a - 0xC1) / 2) i o
-  special_means (Reading.Got (Message.Special n x y)) e u a i o s =
+  special_means (Ok (Message.Special n x y)) e u a i o s =
       let b = special_bytes f n x y e in
       let n-is : n ≡ (a - 0xC1) / 2 = omega (arith, b.0, s.0) in
       rw (n-is, sym b.1 ∙ s.1, sym b.2 ∙ s.2)
-  special_means (Reading.Got (Message.Command c t p)) e u a i o s = absurd u
-  special_means (Reading.Got (Message.Event c x y z)) e u a i o s = absurd u
-  special_means (Reading.Got (Message.Power g h)) e u a i o s = absurd u
-  special_means (Reading.Refused n) e u a i o s = absurd u
+  special_means (Ok (Message.Command c t p)) e u a i o s = absurd u
+  special_means (Ok (Message.Event c x y z)) e u a i o s = absurd u
+  special_means (Ok (Message.Power g h)) e u a i o s = absurd u
+  special_means (Err refusal) e u a i o s = absurd u
 
   pub asks_means : (c : Code) → Asks who f c → meaning_of who f ≡ asked c
   unfolding meaning_of
@@ -150,9 +149,9 @@ module _ (who : Who) (f : ℕ) where
   no_code : (m n : Meaning) → is_code (code_of m) ≡ true → n ≡ m → is_code (code_of n) ≡ true
   no_code m n k q = rw q k
 
-  means_asks : (m : Meaning) → is_code (code_of m) ≡ true → (r : Reading) → read_of f ≡ r → reading_meaning who r ≡ m
-      → Asks who f (code_of m)
-  means_asks m k (Reading.Got (Message.Command a t o)) e r =
+  means_asks : (m : Meaning) → is_code (code_of m) ≡ true → (r : Result Message Refusal) → read_of f ≡ r
+      → reading_meaning who r ≡ m → Asks who f (code_of m)
+  means_asks m k (Ok (Message.Command a t o)) e r =
       if_by (λ x. x ≡ m → Asks who f (code_of m)) (is_for who a)
       (λ u q. ⊎_elim
       (λ d.
@@ -163,47 +162,48 @@ module _ (who : Who) (f : ℕ) where
       (λ d. absurd (false≢true (no_code m Meaning.NotObeyed k (sym d ∙ q))))
       (only_device t o))
       (λ u q. absurd (false≢true (no_code m Meaning.Foreign k q))) r
-  means_asks m k (Reading.Got (Message.Special n i o)) e q =
+  means_asks m k (Ok (Message.Special n i o)) e q =
       only_asks (special (0xC1 + 2 * n) i o) (code_of m)
       (subst (λ (x : Meaning). Only (special (0xC1 + 2 * n) i o) (code_of x)) q (special_code n i o)) k
       (subst IsSpecial (sym e) tt, special_bytes f n i o e)
-  means_asks m k (Reading.Got (Message.Event c x y i)) e q = absurd (false≢true (no_code m Meaning.Foreign k q))
-  means_asks m k (Reading.Got (Message.Power g h)) e q = absurd (false≢true (no_code m Meaning.Foreign k q))
-  means_asks m k (Reading.Refused n) e q = absurd (false≢true (no_code m Meaning.Foreign k q))
+  means_asks m k (Ok (Message.Event c x y i)) e q = absurd (false≢true (no_code m Meaning.Foreign k q))
+  means_asks m k (Ok (Message.Power g h)) e q = absurd (false≢true (no_code m Meaning.Foreign k q))
+  means_asks m k (Err refusal) e q = absurd (false≢true (no_code m Meaning.Foreign k q))
 
   -- a command for the unit is known, and no other frame is
-  abbrev Ours : Reading → Type 0
+  abbrev Ours : Result Message Refusal → Type 0
   Ours r = ToUnit who r ⊎ IsSpecial r
 
-  pub ours_known : (r : Reading) → read_of f ≡ r → Ours r → Known (bits f 15 8) (bits f 7 0) (reading_meaning who r)
-  ours_known (Reading.Got (Message.Command a t o)) e (inl u) =
+  pub ours_known : (r : Result Message Refusal) → read_of f ≡ r → Ours r
+      → Known (bits f 15 8) (bits f 7 0) (reading_meaning who r)
+  ours_known (Ok (Message.Command a t o)) e (inl u) =
       rw u
       (⊎_elim
       (λ d. rw d (device_known (bits f 15 8) (bits f 7 0) o))
       (λ d. inl d)
       (only_device t o))
-  ours_known (Reading.Got (Message.Command a t o)) e (inr u) = absurd u
-  ours_known (Reading.Got (Message.Special n i o)) e u =
+  ours_known (Ok (Message.Command a t o)) e (inr u) = absurd u
+  ours_known (Ok (Message.Special n i o)) e u =
       let b = special_bytes f n i o e in rw (b.1, b.2) (special_known n i o)
-  ours_known (Reading.Got (Message.Event c x y i)) e u = absurd (⊎_elim (λ v. v) (λ v. v) u)
-  ours_known (Reading.Got (Message.Power g h)) e u = absurd (⊎_elim (λ v. v) (λ v. v) u)
-  ours_known (Reading.Refused n) e u = absurd (⊎_elim (λ v. v) (λ v. v) u)
+  ours_known (Ok (Message.Event c x y i)) e u = absurd (⊎_elim (λ v. v) (λ v. v) u)
+  ours_known (Ok (Message.Power g h)) e u = absurd (⊎_elim (λ v. v) (λ v. v) u)
+  ours_known (Err refusal) e u = absurd (⊎_elim (λ v. v) (λ v. v) u)
 
-  others_foreign : (r : Reading) → (Ours r → ⊥) → reading_meaning who r ≡ Meaning.Foreign
-  others_foreign (Reading.Got (Message.Command a t o)) k = rw (refuted (is_for who a) (λ u. k (inl u)))
-  others_foreign (Reading.Got (Message.Special n i o)) k = absurd (k (inr tt))
-  others_foreign (Reading.Got (Message.Event c x y i)) k = refl
-  others_foreign (Reading.Got (Message.Power g h)) k = refl
-  others_foreign (Reading.Refused n) k = refl
+  others_foreign : (r : Result Message Refusal) → (Ours r → ⊥) → reading_meaning who r ≡ Meaning.Foreign
+  others_foreign (Ok (Message.Command a t o)) k = rw (refuted (is_for who a) (λ u. k (inl u)))
+  others_foreign (Ok (Message.Special n i o)) k = absurd (k (inr tt))
+  others_foreign (Ok (Message.Event c x y i)) k = refl
+  others_foreign (Ok (Message.Power g h)) k = refl
+  others_foreign (Err refusal) k = refl
 
-  obeys_ours : (r : Reading) → reading_meaning who r ≡ Meaning.NotObeyed → Ours r
-  obeys_ours (Reading.Got (Message.Command a t o)) r =
-      if_by (λ x. x ≡ Meaning.NotObeyed → Ours (Reading.Got (Message.Command a t o))) (is_for who a)
+  obeys_ours : (r : Result Message Refusal) → reading_meaning who r ≡ Meaning.NotObeyed → Ours r
+  obeys_ours (Ok (Message.Command a t o)) r =
+      if_by (λ x. x ≡ Meaning.NotObeyed → Ours (Ok (Message.Command a t o))) (is_for who a)
       (λ u q. inl u) (λ u q. absurd (true≢false (ap is_foreign q))) r
-  obeys_ours (Reading.Got (Message.Special n i o)) q = inr tt
-  obeys_ours (Reading.Got (Message.Event c x y i)) q = absurd (true≢false (ap is_foreign q))
-  obeys_ours (Reading.Got (Message.Power g h)) q = absurd (true≢false (ap is_foreign q))
-  obeys_ours (Reading.Refused n) q = absurd (true≢false (ap is_foreign q))
+  obeys_ours (Ok (Message.Special n i o)) q = inr tt
+  obeys_ours (Ok (Message.Event c x y i)) q = absurd (true≢false (ap is_foreign q))
+  obeys_ours (Ok (Message.Power g h)) q = absurd (true≢false (ap is_foreign q))
+  obeys_ours (Err refusal) q = absurd (true≢false (ap is_foreign q))
 
 pub listed_exactly : ListedExactly
 unfolding meaning_of

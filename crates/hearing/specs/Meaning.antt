@@ -1,11 +1,11 @@
 -- Who a frame is for, and what it asks. Paper 01, "Commands obeyed".
 -- Assumes nothing.
-use Rattle.std.specs.Prelude.{ℕ, ◌/◌, ◌%◌, ◌^◌, Bool, true, false, not, List, [], ◌∷◌, ◌==◌, if◌then◌else◌}
+use Rattle.std.specs.Prelude.{ℕ, ◌/◌, ◌%◌, ◌^◌, Bool, true, false, not, List, [], ◌∷◌, ◌==◌, if◌then◌else◌, Result, Ok, Err}
+use Rattle.refusals.specs.declared.refusal.Refusal.{Refusal}
 use Rattle.frames.specs.Read.{read_of}
 use Rattle.frames.specs.declared.message.Address.{Address}
 use Rattle.frames.specs.declared.message.Target.{Target}
 use Rattle.frames.specs.declared.message.Message.{Message}
-use Rattle.frames.specs.declared.message.Reading.{Reading}
 use Rattle.hearing.specs.declared.heard.Who.{Who}
 use Rattle.hearing.specs.declared.meaning.Once.{Once}
 use Rattle.hearing.specs.declared.meaning.Once.TheVariants.{QueryMissingShortAddress, QueryContentDtr}
@@ -114,9 +114,9 @@ message_meaning who (Message.Event scheme high low information) = Foreign
 message_meaning who (Message.Power group short) = Foreign
 
 -- or a reserved frame
-abbrev pub reading_meaning : Who → Reading → Meaning
-reading_meaning who (Reading.Got message) = message_meaning who message
-reading_meaning who (Reading.Refused number) = Foreign
+abbrev pub reading_meaning : Who → Result Message Refusal → Meaning
+reading_meaning who (Ok message) = message_meaning who message
+reading_meaning who (Err refusal) = Foreign
 
 -- who a frame is for, in four answers
 unfoldable pub meaning_of : Who → ℕ → Meaning

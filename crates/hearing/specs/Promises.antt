@@ -1,12 +1,12 @@
 -- What is proved about the definitions. The proofs stand in proofs/, under the same names.
 -- Assumes nothing.
-use Rattle.std.specs.Prelude.{◌≡◌, ℕ, ◌/◌, ◌%◌, ◌^◌, true, false, ◌⊎◌, ◌↔◌, List, [], ◌∷◌, ◌++◌, ◌≢◌, if◌then◌else◌}
+use Rattle.std.specs.Prelude.{◌≡◌, ℕ, ◌/◌, ◌%◌, ◌^◌, true, false, ◌⊎◌, ◌↔◌, List, [], ◌∷◌, ◌++◌, ◌≢◌, if◌then◌else◌, Result, Ok, Err}
 use mathlib.Core.List.{Memᴰ}
 use Rattle.laws.specs.Bits.{bits, bit}
+use Rattle.refusals.specs.declared.refusal.Refusal.{Refusal}
 use Rattle.frames.specs.Read.{read_of}
 use Rattle.frames.specs.declared.message.Address.{Address}
 use Rattle.frames.specs.declared.message.Message.{Message}
-use Rattle.frames.specs.declared.message.Reading.{Reading}
 use Rattle.hearing.specs.Codes.{Code, none, device, special, listed_with, eleven_with, code_of, StandsIn}
 use Rattle.hearing.specs.Meaning.{Row, is_for, device_rows, first_rows, other_rows, meaning_of, closes}
 use Rattle.hearing.specs.Pairs.{heard_at, passed, completes, none_waits, waits_for}
@@ -27,20 +27,20 @@ abbrev pub CodeStands : Type 0
 CodeStands = (who : Who) (f : ℕ) → StandsIn (code_of (meaning_of who f)) f
 
 -- a frame that is read as a command whose address means the unit
-abbrev pub ToUnit : Who → Reading → Type 0
-ToUnit who (Reading.Got (Message.Command address target opcode)) = is_for who address ≡ true
-ToUnit who (Reading.Got (Message.Special number first second)) = ⊥
-ToUnit who (Reading.Got (Message.Event scheme first second information)) = ⊥
-ToUnit who (Reading.Got (Message.Power group short)) = ⊥
-ToUnit who (Reading.Refused number) = ⊥
+abbrev pub ToUnit : Who → Result Message Refusal → Type 0
+ToUnit who (Ok (Message.Command address target opcode)) = is_for who address ≡ true
+ToUnit who (Ok (Message.Special number first second)) = ⊥
+ToUnit who (Ok (Message.Event scheme first second information)) = ⊥
+ToUnit who (Ok (Message.Power group short)) = ⊥
+ToUnit who (Err refusal) = ⊥
 
 -- or as a special one
-abbrev pub IsSpecial : Reading → Type 0
-IsSpecial (Reading.Got (Message.Command address target opcode)) = ⊥
-IsSpecial (Reading.Got (Message.Special number first second)) = Unit {0}
-IsSpecial (Reading.Got (Message.Event scheme first second information)) = ⊥
-IsSpecial (Reading.Got (Message.Power group short)) = ⊥
-IsSpecial (Reading.Refused number) = ⊥
+abbrev pub IsSpecial : Result Message Refusal → Type 0
+IsSpecial (Ok (Message.Command address target opcode)) = ⊥
+IsSpecial (Ok (Message.Special number first second)) = Unit {0}
+IsSpecial (Ok (Message.Event scheme first second information)) = ⊥
+IsSpecial (Ok (Message.Power group short)) = ⊥
+IsSpecial (Err refusal) = ⊥
 
 -- the frame is a command for the unit, and the code's bytes stand in it; a special command has no instance byte
 abbrev pub Asks : Who → ℕ → Code → Type 0
@@ -67,12 +67,12 @@ abbrev pub EventForeign : Type 0
 EventForeign = (who : Who) (f : ℕ) → bit f 16 ≡ 0 → meaning_of who f ≡ Meaning.Foreign
 
 abbrev pub ReservedForeign : Type 0
-ReservedForeign = (who : Who) (f number : ℕ) → read_of f ≡ Reading.Refused number → meaning_of who f ≡ Meaning.Foreign
+ReservedForeign = (who : Who) (f : ℕ) (refusal : Refusal) → read_of f ≡ Err refusal → meaning_of who f ≡ Meaning.Foreign
 
 -- a special frame is for every unit: what it means does not depend on who hears it
 abbrev pub SpecialForAll : Type 0
 SpecialForAll =
-    (who other : Who) (f number first second : ℕ) → read_of f ≡ Reading.Got (Message.Special number first second) →
+    (who other : Who) (f number first second : ℕ) → read_of f ≡ Ok (Message.Special number first second) →
     meaning_of who f ≡ meaning_of other f
 
 -- the codes of those rows that keep write-enable

@@ -5,7 +5,7 @@ ghost use Rattle.hearing.specs.Meaning.{is_for, command_at, message_meaning, mea
 use crate::heard::Who;
 use crate::listed::{device_command, special_command};
 use crate::meaning::{Meaning, Once};
-use frames::{Address, Message, Reading, Target};
+use frames::{Address, Message, Target};
 
 // Whether the address means the unit.
 fn is_for(who: Who, address: Address) -> bool
@@ -23,11 +23,7 @@ fn is_for(who: Who, address: Address) -> bool
 fn is_member(groups: u32, group: u8) -> bool
     ensures { result ≡ (groups / 2 ^ group % 2 == 1) }
 {
-    if group < 32 {
-        (groups >> (group as u32)) % 2 == 1
-    } else {
-        false
-    }
+    group < 32 && (groups >> group) & 1 == 1
 }
 
 fn command_at(target: Target, opcode: u8) -> Meaning
@@ -35,16 +31,7 @@ fn command_at(target: Target, opcode: u8) -> Meaning
 {
     match target {
         Target::Device => device_command(opcode),
-        Target::InstanceNumber(_) => Meaning::NotObeyed,
-        Target::InstanceGroup(_) => Meaning::NotObeyed,
-        Target::InstanceType(_) => Meaning::NotObeyed,
-        Target::FeatureAtNumber(_) => Meaning::NotObeyed,
-        Target::FeatureAtGroup(_) => Meaning::NotObeyed,
-        Target::FeatureAtType(_) => Meaning::NotObeyed,
-        Target::FeatureBroadcast => Meaning::NotObeyed,
-        Target::DeviceFeature => Meaning::NotObeyed,
-        Target::FeatureAtInstanceBroadcast => Meaning::NotObeyed,
-        Target::InstanceBroadcast => Meaning::NotObeyed,
+        _ => Meaning::NotObeyed,
     }
 }
 
@@ -60,8 +47,7 @@ pub fn message_meaning(who: Who, message: Message) -> Meaning
             }
         }
         Message::Special(number, first, second) => special_command(number, first, second),
-        Message::Event(_, _, _, _) => Meaning::Foreign,
-        Message::Power(_, _) => Meaning::Foreign,
+        Message::Event(..) | Message::Power(..) => Meaning::Foreign,
     }
 }
 
@@ -69,7 +55,7 @@ pub fn message_meaning(who: Who, message: Message) -> Meaning
 pub fn meaning_of(who: Who, frame: u32) -> Meaning
     ensures { result ≡ meaning_of who frame }
 {
-    let Reading::Got(message) = frames::read(frame) else {
+    let Ok(message) = frames::read(frame) else {
         return Meaning::Foreign;
     };
     message_meaning(who, message)

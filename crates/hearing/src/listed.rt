@@ -5,7 +5,7 @@ ghost use Rattle.hearing.specs.Meaning.{device_command, first_special, special_c
 use crate::meaning::{Meaning, Once, Twice};
 
 // With instance byte 0xFE.
-#[tactic(auto, using(laws::proofs::Tests::tests), unfolding(crate::specs::Meaning::device_command))]
+#[tactic(auto, unfolding(crate::specs::Meaning::device_command))]
 pub fn device_command(opcode: u8) -> Meaning
     ensures { result ≡ device_command opcode }
 {
@@ -31,7 +31,7 @@ pub fn device_command(opcode: u8) -> Meaning
 }
 
 // 0xC1, by its first free byte.
-#[tactic(auto, using(laws::proofs::Tests::tests), unfolding(crate::specs::Meaning::first_special))]
+#[tactic(auto, unfolding(crate::specs::Meaning::first_special))]
 fn first_special(first: u8, second: u8) -> Meaning
     ensures { result ≡ first_special first second }
 {
@@ -46,7 +46,7 @@ fn first_special(first: u8, second: u8) -> Meaning
 }
 
 // A special command, by its number.
-#[tactic(auto, using(laws::proofs::Tests::tests), unfolding(crate::specs::Meaning::special_command))]
+#[tactic(auto, unfolding(crate::specs::Meaning::special_command))]
 pub fn special_command(number: u8, first: u8, second: u8) -> Meaning
     ensures { result ≡ special_command number first second }
 {

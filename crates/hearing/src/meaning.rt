@@ -1,7 +1,7 @@
 // What a frame means to the unit.
 
 // The commands that are obeyed at once.
-#[derive(Clone, Copy)]
+#[derive(Clone, Copy, PartialEq, Eq)]
 pub enum Once {
     QueryMissingShortAddress,
     QueryContentDtr(u8),
@@ -14,7 +14,7 @@ pub enum Once {
 }
 
 // The commands that need a pair.
-#[derive(Clone, Copy)]
+#[derive(Clone, Copy, PartialEq, Eq)]
 pub enum Twice {
     ResetMemoryBank,
     SetShortAddress,
@@ -23,7 +23,7 @@ pub enum Twice {
     RemoveFromDeviceGroups(u8),
 }
 
-#[derive(Clone, Copy)]
+#[derive(Clone, Copy, PartialEq, Eq)]
 pub enum Meaning {
     Foreign,
     NotObeyed,

@@ -6,12 +6,12 @@ use mathlib.Core.Logic.{◌⊎◌, inl, inr, ⊎_elim}
 use mathlib.Core.Bool.{Bool, true, false, not}
 use mathlib.Core.List.{List}
 use Prim.Native.Nat.{ℕ}
-use Rattle.std.specs.Prelude.{if◌then◌else◌}
+use Rattle.std.specs.Prelude.{Result, Ok, Err, if◌then◌else◌}
 use Rattle.laws.proofs.Choosing.{refuted}
 use Rattle.laws.proofs.Tests.{if_by, clash, denied}
 use Rattle.frames.specs.Read.{read_of}
+use Rattle.refusals.specs.declared.refusal.Refusal.{Refusal}
 use Rattle.frames.specs.declared.message.Message.{Message}
-use Rattle.frames.specs.declared.message.Reading.{Reading}
 use Rattle.records.specs.declared.record.Record.{Record}
 use Rattle.hearing.specs.Meaning.{is_for, closes, meaning_of}
 use Rattle.hearing.specs.Promises.{ToUnit, IsSpecial}
@@ -67,22 +67,22 @@ module _ (rs : List Record) (k : Context) where
 
 -- a frame that is no command for the unit is an event, a reserved frame or a command for others, and back
 module _ (who : Who) where
-  no_command : (r : Reading) → (ToUnit who r ⊎ IsSpecial r → ⊥) → IsEvent r ⊎ (IsReserved r ⊎ ForOthers who r)
-  no_command (Reading.Got (Message.Command a t o)) n = inr (inr (refuted (is_for who a) (λ u. n (inl u))))
-  no_command (Reading.Got (Message.Special s i o)) n = absurd (n (inr tt))
-  no_command (Reading.Got (Message.Event c x y i)) n = inl tt
-  no_command (Reading.Got (Message.Power g h)) n = inl tt
-  no_command (Reading.Refused c) n = inr (inl tt)
+  no_command : (r : Result Message Refusal) → (ToUnit who r ⊎ IsSpecial r → ⊥) → IsEvent r ⊎ (IsReserved r ⊎ ForOthers who r)
+  no_command (Ok (Message.Command a t o)) n = inr (inr (refuted (is_for who a) (λ u. n (inl u))))
+  no_command (Ok (Message.Special s i o)) n = absurd (n (inr tt))
+  no_command (Ok (Message.Event c x y i)) n = inl tt
+  no_command (Ok (Message.Power g h)) n = inl tt
+  no_command (Err refusal) n = inr (inl tt)
 
-  command_none : (r : Reading) → IsEvent r ⊎ (IsReserved r ⊎ ForOthers who r) → ToUnit who r ⊎ IsSpecial r → ⊥
-  command_none (Reading.Got (Message.Command a t o)) (inl e) u = e
-  command_none (Reading.Got (Message.Command a t o)) (inr (inl e)) u = e
-  command_none (Reading.Got (Message.Command a t o)) (inr (inr e)) u =
+  command_none : (r : Result Message Refusal) → IsEvent r ⊎ (IsReserved r ⊎ ForOthers who r) → ToUnit who r ⊎ IsSpecial r → ⊥
+  command_none (Ok (Message.Command a t o)) (inl e) u = e
+  command_none (Ok (Message.Command a t o)) (inr (inl e)) u = e
+  command_none (Ok (Message.Command a t o)) (inr (inr e)) u =
       ⊎_elim (λ v. clash (is_for who a) v e) (λ v. v) u
-  command_none (Reading.Got (Message.Special s i o)) v u = ⊎_elim (λ e. e) (λ w. ⊎_elim (λ e. e) (λ e. e) w) v
-  command_none (Reading.Got (Message.Event c x y i)) v u = ⊎_elim (λ e. e) (λ e. e) u
-  command_none (Reading.Got (Message.Power g h)) v u = ⊎_elim (λ e. e) (λ e. e) u
-  command_none (Reading.Refused c) v u = ⊎_elim (λ e. e) (λ e. e) u
+  command_none (Ok (Message.Special s i o)) v u = ⊎_elim (λ e. e) (λ w. ⊎_elim (λ e. e) (λ e. e) w) v
+  command_none (Ok (Message.Event c x y i)) v u = ⊎_elim (λ e. e) (λ e. e) u
+  command_none (Ok (Message.Power g h)) v u = ⊎_elim (λ e. e) (λ e. e) u
+  command_none (Err refusal) v u = ⊎_elim (λ e. e) (λ e. e) u
 
   through : (f : ℕ) → closes (meaning_of who f) ≡ false → LetThrough who f
   through f e = ⊎_elim inl (λ n. inr (no_command (read_of f) n)) ((closes_exactly who f).keeping.0 e)

@@ -8,6 +8,7 @@ use Rattle.rooms.specs.declared.state.State.{State}
 use Rattle.rooms.specs.declared.reply.Stepped.{Stepped}
 use Rattle.unit.specs.Run.{Input, power_on, hears}
 use Rattle.unit.specs.Step.{start_of, step_of, power_on_of}
+use Rattle.unit.specs.Promises.{number_of}
 
 -- what a call leaves: its number (0: accepted), the state and the store
 pub record Left (S : Type 0) : Type 0 where
@@ -42,7 +43,7 @@ module _ {S : Type 0} (machine : Machine S) (start : Start) where
 
 -- an outcome of the public calls
 abbrev pub left_by : Outcome Stepped → Left State
-left_by o = record { number = o.answer.reply.number; state = o.answer.state; store = o.store }
+left_by o = record { number = number_of o; state = o.answer.state; store = o.store }
 
 -- ours: the very definitions that the promises of start, step and power_on cite
 unfoldable pub unit_machine : Machine State

@@ -1,12 +1,11 @@
 -- Three wrong machines, each ours with one change. Proved in proofs/Wrong.antt not to meet the demand.
 -- Assumes nothing.
-use Rattle.std.specs.Prelude.{◌≡◌, ℕ, Bool, true, false, not, ◌&&◌, ◌||◌, List, [], ◌∷◌, reverse, leb, eqb, take, if◌then◌else◌}
+use Rattle.std.specs.Prelude.{◌≡◌, ℕ, Bool, true, false, not, ◌&&◌, ◌||◌, List, [], ◌∷◌, reverse, Result, Ok, Err, leb, eqb, take, if◌then◌else◌}
 use Rattle.laws.specs.Parts.{put}
 use Rattle.records.specs.Map.{records_of}
 use Rattle.records.specs.Lookup.{holder}
 use Rattle.records.specs.declared.record.Record.{Record}
-use Rattle.records.specs.declared.holder.Found.{Found}
-use Rattle.records.specs.declared.holder.Found.TheVariants.{At, Missing}
+use Rattle.records.specs.declared.holder.Why.{Why}
 use Rattle.banks.specs.Values.{value_of}
 use Rattle.memory.specs.declared.staged.Staged.{Staged}
 use Rattle.rooms.specs.declared.state.State.{State}
@@ -19,9 +18,9 @@ abbrev pub over : {S : Type 0} → List ℕ → Left S → Left S
 over store l = record { number = l.number; state = l.state; store = store }
 
 -- the bytes that are staged, put at their places already
-abbrev pub early : Staged → List ℕ → Found → List ℕ
-early g store (At r) = put r.offset (take g.count g.bytes) store
-early g store (Missing w) = store
+abbrev pub early : Staged → List ℕ → Result Record Why → List ℕ
+early g store (Ok r) = put r.offset (take g.count g.bytes) store
+early g store (Err w) = store
 
 abbrev pub early_left : List Record → Staged → Left State → Left State
 early_left rs g l = over (if leb 1 g.count then early g l.store (holder rs g.bank g.first) else l.store) l
@@ -53,9 +52,9 @@ same (a ∷ rest) (b ∷ bs) = eqb a b && same rest bs
 
 -- a staged value has landed: bytes of it were staged before, and in the store it is another one now (staging that is
 -- dropped changes no byte of it)
-abbrev pub landed : Staged → Found → List ℕ → List ℕ → Bool
-landed g (At r) before now = leb 1 g.count && not (same (value_of r before) (value_of r now))
-landed g (Missing w) before now = false
+abbrev pub landed : Staged → Result Record Why → List ℕ → List ℕ → Bool
+landed g (Ok r) before now = leb 1 g.count && not (same (value_of r before) (value_of r now))
+landed g (Err w) before now = false
 
 abbrev pub sated_left : List Record → List ℕ → Sated → Left State → Left Sated
 sated_left rs store s l =

@@ -1,7 +1,7 @@
 -- The algebra of bit fields: outside this file a field is an unknown with a bound, and sums of fields are linear.
 -- Assumes nothing.
-use mathlib.Core.Path.{◌≡◌, refl, ◌∙◌, sym, ap}
-use Prim.Native.Nat.{ℕ, zero, ◌+◌, ◌-◌, ◌*◌, ◌^◌, ◌/◌, ◌%◌, ◌<◌, ◌≤◌}
+use mathlib.Core.Path.{◌≡◌, ◌∙◌, sym, ap}
+use Prim.Native.Nat.{ℕ, ◌+◌, ◌-◌, ◌*◌, ◌^◌, ◌/◌, ◌%◌, ◌<◌, ◌≤◌}
 use native.Mathlib.Nat.{mod-lt, mod-add-div, div-div-eq-div-mul, div-eq_of_lt, div-one, add-sub_of_le}
 use lib.Arith.{digits_div, digits_mod}
 use lib.Pow.{pow_pos, pow-add}

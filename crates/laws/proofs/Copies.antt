@@ -6,9 +6,9 @@ use mathlib.Core.Path.{◌≡◌, refl, ap, sym, ◌∙◌}
 use mathlib.Core.List.{List, [], ◌∷◌, ◌++◌, append-nil, append_assoc}
 use native.Mathlib.Omega.{arith}
 use native.Mathlib.Numerals.{add-one}
-use native.Mathlib.Nat.{not-suc-le-zero, le_of_suc-le-suc, zero-sub, sub-zero, suc-sub-suc, add-sub_cancel_left}
-use lib.ListN.{length, take, drop, set, get_or, replicate, drop_of_length-le}
-use lib.Seq.{take-length, take-take, drop-drop, length-take-le, sets-eq}
+use native.Mathlib.Nat.{not-suc-le-zero, le_of_suc-le-suc, add-sub_cancel_left}
+use lib.ListN.{length, take, drop, set, get_or, drop_of_length-le}
+use lib.Seq.{take-take, drop-drop, length-take-le, sets-eq}
 use Rattle.laws.specs.Parts.{part, put}
 use Rattle.laws.proofs.Parts.{length_part}
 
@@ -31,16 +31,6 @@ copy_more i d s l e h k =
 pub copy_full : (i : ℕ) (d s : List ℕ) → length d ≡ i → take i s ++ drop i d ≡ take i s
 copy_full i d s h =
     ap (λ (t : List ℕ). take i s ++ t) (drop_of_length-le d {i = i} (omega arith)) ∙ append-nil (take i s)
-
-drop_replicate : (i n v : ℕ) → drop i (replicate n v) ≡ replicate (n - i) v
-drop_replicate zero n v = ap (λ (k : ℕ). replicate k v) (sym (sub-zero n))
-drop_replicate (suc i) zero v = ap (λ (k : ℕ). replicate k v) (sym (zero-sub (suc i)))
-drop_replicate (suc i) (suc n) v = drop_replicate i n v ∙ ap (λ (k : ℕ). replicate k v) (sym (suc-sub-suc n i))
-
--- all is copied, and the room was n times v
-pub copy_all : (i n v : ℕ) (s : List ℕ) → length s ≡ i
-    → take i s ++ drop i (replicate n v) ≡ s ++ replicate (n - length s) v
-copy_all i n v s h = rw (← h, take-length s, drop_replicate (length s) n v)
 
 module _ (s : List ℕ) (at n end : ℕ) (e : end ≡ at + n) where
   width : end - at ≡ n

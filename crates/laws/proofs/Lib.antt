@@ -1,8 +1,7 @@
 pub mod Tests
 pub mod Bits
-pub mod Trailing
-pub mod Table
 pub mod Items
+pub mod Iterated
 pub mod Parts
 pub mod Copies
 pub mod Choosing

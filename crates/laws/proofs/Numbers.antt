@@ -1,8 +1,8 @@
 -- The first test of a list that fails gives its number, exactly.
 -- Assumes nothing.
-use mathlib.Core.Path.{◌≡◌, refl, sym, ◌∙◌}
-use mathlib.Core.Logic.{◌⊎◌, inl, inr}
-use mathlib.Core.Bool.{Bool, true, false, not, ◌&&◌, true≢false, false≢true}
+use mathlib.Core.Path.{◌≡◌, refl}
+use mathlib.Core.Logic.{inl, inr}
+use mathlib.Core.Bool.{Bool, true, false, not, ◌&&◌}
 use mathlib.Core.List.{List, [], ◌∷◌}
 use Prim.Native.Nat.{ℕ, ◌<◌}
 use native.Mathlib.Omega.{arith}
@@ -11,7 +11,7 @@ use borrow.Author.Tests.{eqb-false}
 use Rattle.std.specs.Prelude.{if◌then◌else◌}
 use Rattle.laws.specs.Lists.{every}
 use Rattle.laws.specs.Numbers.{Test, test, first_failing, Given, ExactlyIf, numbered, NoneExactlyIf}
-use Rattle.laws.proofs.Tests.{both, clash, denied}
+use Rattle.laws.proofs.Tests.{both, denied}
 
 given : (ts : List Test) (n : ℕ) → 0 < n → first_failing ts ≡ n → Given ts n
 unfolding first_failing

@@ -1,12 +1,12 @@
 -- A part of a list of bytes, put anew: what stands there, and what stays elsewhere.
 -- Assumes nothing.
-use mathlib.Core.Path.{◌≡◌, refl, sym, ap, ◌∙◌}
+use mathlib.Core.Path.{◌≡◌, refl, ap, ◌∙◌}
 use mathlib.Core.Logic.{◌⊎◌, inl, inr}
 use mathlib.Core.List.{List, [], ◌∷◌, ◌++◌, append_assoc}
 use Prim.Native.Nat.{ℕ, suc, ◌+◌, ◌-◌, ◌≤◌, ◌<◌}
 use native.Mathlib.Omega.{arith}
 use lib.ListN.{length, take, drop, set, length-take, length-drop}
-use lib.Seq.{sets, sets-eq, length-sets, take_at, drop_at, drop-set-lt, drop-set-add, take-set-le, length-take-le}
+use lib.Seq.{sets-eq, length-sets, take_at, drop_at, drop-set-lt, drop-set-add, take-set-le, length-take-le}
 use Rattle.laws.specs.Parts.{part, put}
 
 module _ (at n : ℕ) where

@@ -6,84 +6,66 @@
 mod bars; // a count, as a part of the largest
 mod input; // slice after slice
 mod table; // the counts in words
-mod written; // numbers on standard output
 
-use input::End;
-use streams::{read_full, write_all, write_decimal};
-
-// A program has no status of its own to end with: what it could not do it says on standard error.
-fn say(rt: &HostRuntime, sentence: &[u8]) {
-    write_all(&rt.stderr(), sentence);
-}
-
-fn say_number(rt: &HostRuntime, number: u64) {
-    write_decimal(&rt.stderr(), number);
-}
+use input::Broken;
+use std::io;
+use std::io::Read;
+use streams::{Form, say_lost};
 
 // The record that ended the count stands behind all that were counted.
-fn say_broken(rt: &HostRuntime, counts: &[u64; 16]) {
-    say(rt, b"13: record ");
-    say_number(rt, std::num::wrapping_add_u64(input::records(counts), 1));
-    say(rt, b" of the input is ");
-}
-
-fn say_unknown(rt: &HostRuntime, counts: &[u64; 16], kind: u8) {
-    say_broken(rt, counts);
-    say(rt, b"of unknown kind ");
-    say_number(rt, kind as u64);
-    say(rt, b"; nothing behind it was read\n");
-}
-
-fn say_unfinished(rt: &HostRuntime, counts: &[u64; 16], length: u8) {
-    say_broken(rt, counts);
-    say(rt, b"unfinished, with ");
-    say_number(rt, length as u64);
-    say(rt, b" of its 8 bytes\n");
-}
-
-fn say_end(rt: &HostRuntime, counts: &[u64; 16], end: End) {
-    match end {
-        End::Whole => {}
-        End::Unknown(kind) => say_unknown(rt, counts, kind),
-        End::Unfinished(length) => say_unfinished(rt, counts, length),
-        End::Unread => {
-            say(
-                rt,
-                b"ledger: standard input cannot be read: what is behind is not counted\n",
+fn say_broken(rt: &HostRuntime, counts: &[u64; 16], why: Broken) -> io::Result<()> {
+    let record = input::records(counts).wrapping_add(1);
+    match why {
+        Broken::Unknown(kind) => {
+            eprintln!(rt;
+                "13: record {record} of the input is of unknown kind {kind}; nothing behind it was read"
             )
+        }
+        Broken::Unfinished(length) => {
+            eprintln!(rt;
+                "13: record {record} of the input is unfinished, with {length} of its 8 bytes"
+            )
+        }
+        Broken::Unread => {
+            eprintln!(rt; "ledger: standard input cannot be read: what is behind is not counted")
         }
     }
 }
 
-// Answers whether all is written.
-fn write(rt: &HostRuntime, bytes: bool, counts: &[u64; 16]) -> bool {
-    if bytes {
-        return written::write_bytes(rt, counts);
+// Each count, as eight bytes, high first.
+fn write_bytes(rt: &HostRuntime, counts: &[u64; 16]) -> io::Result<()> {
+    for count in counts {
+        rt.write_all(&count.to_be_bytes())?;
     }
-    table::write_table(rt, counts)
+    Ok(())
+}
+
+fn write(rt: &HostRuntime, form: Form, counts: &[u64; 16]) -> io::Result<()> {
+    match form {
+        Form::Words => table::write_table(rt, counts),
+        Form::Bytes => write_bytes(rt, counts),
+    }
 }
 
 // The counts so far stand, however the count ended.
-fn ledger(rt: &HostRuntime, bytes: bool) {
-    let mut counts: [u64; 16] = [0; 16];
-    let end = input::count_all(rt, &mut counts);
-    if !write(rt, bytes, &counts) {
-        say(
-            rt,
-            b"ledger: standard output cannot be written: the rest is lost\n",
-        );
+fn ledger(rt: &HostRuntime, form: Form) {
+    let mut counts = [0u64; 16];
+    let ended = input::count_all(rt, &mut counts);
+    if write(rt, form, &counts).is_err() {
+        say_lost(rt, "ledger");
     }
-    say_end(rt, &counts, end);
+    if let Err(why) = ended {
+        let _ = say_broken(rt, &counts, why);
+    }
 }
 
 fn main(rt: HostRuntime) {
     let mut first = [0u8; 1];
-    if read_full(&mut rt.stdin(), &mut first) == 0 {
-        say(
-            &rt,
-            b"ledger: standard input does not say whether words or bytes are wanted\n",
+    if rt.stdin().read_exact(&mut first).is_err() {
+        let _ = rt.eprintln(
+            "ledger: standard input does not say whether words or bytes are wanted",
         );
         return;
     }
-    ledger(&rt, first[0] == 1);
+    ledger(&rt, Form::from(first[0]));
 }

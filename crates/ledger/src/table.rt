@@ -1,96 +1,65 @@
 // The counts as a table: a line for each class, with a bar; the sum of them, and the power-on
 // records apart.
-ghost use Rattle.std.specs.Prelude.{◌<◌, ◌≤◌};
-
 use crate::bars::bar;
 use crate::input::frame_records;
-use crate::written::{digits, write_aligned};
-use streams::write_all;
+use std::io;
 
-// The names, each with the spaces up to the numbers.
-const NAMES: [u8; 850] = *b"\
-    commands to a short address                       \
-    commands to a device group                        \
-    commands to all without an address                \
-    commands to all                                   \
-    special commands                                  \
-    reserved address bytes                            \
-    reserved instance bytes                           \
-    events, scheme 0: instance type, instance number  \
-    events, scheme 1: short address, instance type    \
-    events, scheme 2: short address, instance number  \
-    events, scheme 3: device group, instance type     \
-    events, scheme 4: instance group, instance type   \
-    power cycles                                      \
-    malformed power events                            \
-    reserved events                                   \
-    frame records                                     \
-    power-on records                                  \
-";
+// The classes, in the order of their numbers.
+const NAMES: [&str; 15] = [
+    "commands to a short address",
+    "commands to a device group",
+    "commands to all without an address",
+    "commands to all",
+    "special commands",
+    "reserved address bytes",
+    "reserved instance bytes",
+    "events, scheme 0: instance type, instance number",
+    "events, scheme 1: short address, instance type",
+    "events, scheme 2: short address, instance number",
+    "events, scheme 3: device group, instance type",
+    "events, scheme 4: instance group, instance type",
+    "power cycles",
+    "malformed power events",
+    "reserved events",
+];
 
-const FRAME_RECORDS: usize = 15;
-
-const POWER_ON_RECORDS: usize = 16;
-
-const BAR: [u8; 42] = *b"  ########################################";
-
-fn larger(a: u64, b: u64) -> u64 {
-    if a < b { b } else { a }
+fn digits(number: u64) -> usize {
+    number
+        .checked_ilog10()
+        .map_or(1, |power| power as usize + 1)
 }
 
-// The largest of the classes.
-fn largest_class(counts: &[u64; 16]) -> u64 {
-    let mut largest: u64 = 0;
-    for k in 0..15 {
-        largest = larger(largest, counts[k]);
-    }
-    largest
-}
-
-// Internal: a name and its number. Answers whether both are written.
-fn write_row(rt: &HostRuntime, row: usize, number: u64, width: usize) -> bool
-    requires { (row < 17) × (width ≤ 20) }
-{
-    let from = 50 * row;
-    let end = from + 50;
-    write_all(&rt.stdout(), &NAMES[from..end]) && write_aligned(rt, number, width)
-}
-
-// A bar, behind two spaces; nothing for nothing. Answers whether all of it is written.
-fn write_bar(rt: &HostRuntime, count: u64, largest: u64) -> bool {
+// A bar, behind two spaces; nothing for nothing.
+fn write_bar(rt: &HostRuntime, count: u64, largest: u64) -> io::Result<()> {
     if count == 0 {
-        return true;
+        return Ok(());
     }
-    let end = 2 + bar(count, largest);
-    write_all(&rt.stdout(), &BAR[0..end])
+    let long = bar(count, largest);
+    print!(rt; "  {:#<long$}", "")
 }
 
-fn end_row(rt: &HostRuntime) -> bool {
-    write_all(&rt.stdout(), b"\n")
+fn write_row(rt: &HostRuntime, name: &str, number: u64, width: usize) -> io::Result<()> {
+    print!(rt; "{name:<50}{number:>width$}")
 }
 
-// Internal: a line for each class. Answers whether all are written.
-fn write_classes(rt: &HostRuntime, counts: &[u64; 16], width: usize) -> bool
-    requires { width ≤ 20 }
-{
-    let largest = largest_class(counts);
-    for k in 0..15 {
-        let count = counts[k];
-        if !(write_row(rt, k, count, width) && write_bar(rt, count, largest) && end_row(rt)) {
-            return false;
-        }
+fn write_classes(rt: &HostRuntime, counts: &[u64], largest: u64, width: usize) -> io::Result<()> {
+    for (name, count) in NAMES.iter().zip(counts) {
+        write_row(rt, name, *count, width)?;
+        write_bar(rt, *count, largest)?;
+        println!(rt; "")?;
     }
-    true
+    Ok(())
 }
 
-// Answers whether all is written.
-pub fn write_table(rt: &HostRuntime, counts: &[u64; 16]) -> bool {
+pub fn write_table(rt: &HostRuntime, counts: &[u64; 16]) -> io::Result<()> {
+    let classes = &counts[..15];
+    let power_ons = counts[15];
+    let largest = classes.iter().fold(0, |most, count| most.max(*count));
     let frames = frame_records(counts);
-    let most = larger(larger(largest_class(counts), frames), counts[15]);
-    let width = digits(most);
-    write_classes(rt, counts, width)
-        && write_row(rt, FRAME_RECORDS, frames, width)
-        && end_row(rt)
-        && write_row(rt, POWER_ON_RECORDS, counts[15], width)
-        && end_row(rt)
+    let width = digits(largest.max(frames).max(power_ons));
+    write_classes(rt, classes, largest, width)?;
+    write_row(rt, "frame records", frames, width)?;
+    println!(rt; "")?;
+    write_row(rt, "power-on records", power_ons, width)?;
+    println!(rt; "")
 }

@@ -24,6 +24,7 @@ use Rattle.packing.specs.StateBytes.{state_bytes, four_at, state_of, shape_holds
 use Rattle.packing.specs.Promises.{Bytes}
 use Rattle.packing.proofs.Round.{bytes_back}
 use Rattle.faces.specs.Face.{RunFaced, faced_by, shape_number, frame_face, power_on_face, refused_run, run_by, run_face}
+use Rattle.faces.proofs.Numbers.{shape_again}
 use Rattle.lifted.specs.Machine.{fits}
 use Rattle.lifted.specs.Run.{ahead, each_of, entry_fits}
 use Rattle.lifted.specs.Promises.{RunEach, RecordsFit}
@@ -59,12 +60,12 @@ module _ (map image : List ℕ) where
   of_none store bytes [] e = refl
   of_none store bytes (Entry.Frame clock frame ∷ es) e =
       let n = shape_number map store (length image) in
-      rw e
+      rw (e, shape_again map store (length image))
       (ap (λ (r : RunFaced). record { output = n ∷ 0 ∷ 0 ∷ 0 ∷ r.output; state = r.state; store = r.store })
       (of_none store bytes es e))
   of_none store bytes (Entry.PowerOn ∷ es) e =
       let n = shape_number map store (length image) in
-      rw e
+      rw (e, shape_again map store (length image))
       (ap (λ (r : RunFaced). record { output = n ∷ 0 ∷ 0 ∷ 0 ∷ r.output; state = r.state; store = r.store })
       (of_none store bytes es e))
   of_none store bytes (Entry.Broken ∷ es) e = refl

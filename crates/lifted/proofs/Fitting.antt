@@ -9,6 +9,7 @@ use borrow.Author.Tests.{eqb-true}
 use lib.Bits.{or_lt, and_le_l}
 use lib.Dec.{leb, eqb, ltb}
 use lib.ListN.{length, replicate, length-set, length-append, length-replicate}
+use Rattle.std.specs.Prelude.{Result, Ok, Err}
 use Rattle.laws.specs.Bits.{bits}
 use Rattle.laws.specs.Outcome.{Outcome}
 use Rattle.laws.proofs.Bits.{small}
@@ -17,8 +18,7 @@ use Rattle.laws.proofs.Parts.{length_part}
 use Rattle.records.specs.Map.{records_of, mapped}
 use Rattle.records.specs.Lookup.{holder}
 use Rattle.records.specs.declared.record.Record.{Record}
-use Rattle.records.specs.declared.holder.Found.{Found}
-use Rattle.records.specs.declared.holder.Found.TheVariants.{At, Missing}
+use Rattle.records.specs.declared.holder.Why.{Why}
 use Rattle.banks.specs.Rules.{placed}
 use Rattle.banks.specs.Values.{value_of, padded}
 use Rattle.banks.specs.Facts.{Within}
@@ -79,19 +79,19 @@ module _ (g : Staged) (long : length g.bytes ≡ 8) where
   unfolding write_byte write_at write_found take_byte
   write_eight rs store bank location byte = go (holder rs bank location)
     where
-      go : (f : Found) → Eight (write_at rs store g location byte f)
-      go (At r) =
+      go : (f : Result Record Why) → Eight (write_at rs store g location byte f)
+      go (Ok r) =
           if_by Eight (taken rs store g r location)
           (λ e. if_by Eight (eqb (location - r.first + 1) r.width) (λ q. refl)
           (λ q. with_eight (location - r.first) byte))
           (λ e. refl)
-      go (Missing w) = refl
+      go (Err w) = refl
 
 module _ (map store : List ℕ) (p : placed map (length store) ≡ true) (l : Latch) (long : length l.bytes ≡ 8) where
   abbrev EightShown : Shown → Type 0
   EightShown a = length a.latch.bytes ≡ 8
 
-  padded_eight : (bank location : ℕ) (r : Record) → holder (records_of map) bank location ≡ At r
+  padded_eight : (bank location : ℕ) (r : Record) → holder (records_of map) bank location ≡ Ok r
       → length (padded (value_of r store)) ≡ 8
   unfolding value_of
   padded_eight bank location r f =
@@ -104,13 +104,13 @@ module _ (map store : List ℕ) (p : placed map (length store) ≡ true) (l : La
   unfolding read_byte read_at show_byte latch_from
   read_eight bank location = go (holder (records_of map) bank location) refl
     where
-      go : (f : Found) → holder (records_of map) bank location ≡ f → EightShown (read_at store l location f)
-      go (At r) q =
+      go : (f : Result Record Why) → holder (records_of map) bank location ≡ f → EightShown (read_at store l location f)
+      go (Ok r) q =
           if_by EightShown (eqb (location - r.first) 0)
           (λ e. if_by (λ (m : Latch). length m.bytes ≡ 8) (leb 2 r.width)
           (λ t. padded_eight bank location r q) (λ t. refl))
           (λ e. if_by EightShown (latches l r) (λ t. long) (λ t. long))
-      go (Missing w) q = long
+      go (Err w) q = long
 
 -- ---- what is due
 

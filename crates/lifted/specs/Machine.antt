@@ -2,6 +2,7 @@
 -- mf_power_on promise. Paper 01, "How the promises are judged".
 -- Assumes nothing.
 use Rattle.std.specs.Prelude.{Bool, ◌&&◌, List, ℕ, ◌^◌, ltb, replicate, if◌then◌else◌}
+use Rattle.refusals.specs.Numbers.{number_in}
 use Rattle.history.specs.Machine.{Left, Machine}
 use Rattle.faces.specs.Face.{Faced, start_face, frame_face, power_on_face}
 
@@ -11,7 +12,7 @@ fits n = ltb n (2 ^ 32)
 
 -- what a call leaves: its number, the state's bytes, the store
 abbrev pub faced_left : Faced → Left (List ℕ)
-faced_left f = record { number = f.reply.number; state = f.state; store = f.store }
+faced_left f = record { number = number_in f.reply; state = f.state; store = f.store }
 
 -- a number that has more bits cannot be told to C: there is no such call, so it leaves all as it was, and counts as not
 -- accepted (6: out of range)

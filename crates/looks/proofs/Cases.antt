@@ -3,6 +3,7 @@
 use mathlib.Core.Path.{refl}
 use Rattle.laws.specs.Parts.{part}
 use Rattle.laws.specs.Numbers.{first_failing}
+use Rattle.refusals.specs.Numbers.{refusal_of}
 use Rattle.records.specs.Map.{record_at, records_of}
 use Rattle.records.specs.Order.{size_holds}
 use Rattle.records.specs.Lookup.{holder, if_first, beginner}
@@ -11,6 +12,6 @@ use Rattle.looks.specs.Look.{look_number, look_of, look_bytes}
 use Rattle.looks.specs.Cases.{LookCases}
 
 pub look_cases : LookCases
-unfolding look_bytes look_of look_number first_failing size_holds records_of record_at places_hold lengths_hold banks_hold
+unfolding look_bytes refusal_of look_of look_number first_failing size_holds records_of record_at places_hold lengths_hold banks_hold
     bank_holds head_bytes_hold head_holds head_byte_holds beginner if_first holder part
 look_cases = record { numbers = refl; places = refl; bytes = refl }

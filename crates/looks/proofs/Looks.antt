@@ -9,7 +9,7 @@ use native.Mathlib.Nat.{add-sub_cancel_left}
 use borrow.Author.Tests.{ne_eqb}
 use lib.Dec.{eqb}
 use lib.ListN.{length, take, drop}
-use Rattle.std.specs.Prelude.{if◌then◌else◌}
+use Rattle.std.specs.Prelude.{if◌then◌else◌, Option, Some, None, Ok, Err}
 use Rattle.laws.specs.Numbers.{Test, test, first_failing}
 use Rattle.laws.specs.Parts.{part}
 use Rattle.laws.proofs.Numbers.{exactly_if}
@@ -21,24 +21,27 @@ use Rattle.records.specs.Order.{ordered}
 use Rattle.records.specs.Lookup.{beginner}
 use Rattle.records.specs.Facts.{Member}
 use Rattle.records.specs.declared.record.Record.{Record}
-use Rattle.records.specs.declared.holder.Beginning.{Beginning}
-use Rattle.records.specs.declared.holder.Beginning.TheVariants.{Begins, NoValue}
+use Rattle.refusals.specs.Numbers.{number_of, number_in, refusal_of}
+use Rattle.refusals.specs.declared.refusal.Refusal.{Refusal}
+use Rattle.refusals.proofs.Told.{refusal_is, not_none, numbers_in_range}
+use Rattle.refusals.proofs.Among.{number_among}
 use Rattle.records.proofs.Members.{member_fields}
 use Rattle.records.proofs.Locations.{holds_is, holder_at, beginner_at, first_found}
 use Rattle.banks.specs.Rules.{check_tests, check_number}
 use Rattle.banks.specs.Values.{value_of}
 use Rattle.banks.proofs.Places.{member_inside, holder_within}
 use Rattle.banks.proofs.Standing.{stands, is_standing}
-use Rattle.looks.specs.Look.{is_found, look_tests, look_number, refused_look, place_of, look_of, look_bytes}
+use Rattle.looks.specs.Look.{is_found, look_tests, look_number, place_of, look_of, bytes_at, look_bytes}
 use Rattle.looks.specs.Promises.{Shows, LookNumbers, LookStands, LookShows, LookEmpty}
 use Rattle.looks.specs.Promises.{LookAtSettled, LookNumberSettled, LookSettled}
-use Rattle.looks.specs.declared.looked.Looked.{Looked}
+use Rattle.looks.specs.declared.looked.Place.{Place}
 
 -- a number and a place, as one
-placed_or_14 : (f : Beginning) (n : ℕ) → n ≡ (if is_found f then 0 else 14)
-    → (if eqb n 0 then place_of f else refused_look n) ≡ place_of f
-placed_or_14 (Begins r) n e = rw e
-placed_or_14 NoValue n e = rw e
+placed_or_14 : (f : Option Record) (n : ℕ) → n ≡ (if is_found f then 0 else 14)
+    → (if eqb n 0 then place_of f else Err (refusal_of n)) ≡ place_of f
+unfolding refusal_of
+placed_or_14 (Some r) n e = rw e
+placed_or_14 None n e = rw e
 
 module _ (map store : List ℕ) (bank location : ℕ) where
   -- what comes after 7 to 11
@@ -56,10 +59,12 @@ module _ (map store : List ℕ) (bank location : ℕ) where
   unfolding check_number look_number first_failing
   sound_number e = joined_none (check_tests map store (length store)) last_test refl e
 
-  pub look_refused : (n : ℕ) → (n ≡ 0 → ⊥) → check_number map store (length store) ≡ n
-      → look_of map store bank location ≡ refused_look n
+  pub look_refused : (e : Refusal) → number_of e ≡ check_number map store (length store)
+      → Err e ≡ look_of map store bank location
   unfolding look_of
-  look_refused n h e = rw (refused_number n (omega arith) e, ne_eqb n 0 h)
+  look_refused e q =
+      let n = refused_number (number_of e) (numbers_in_range e).0 (sym q) in
+      rw (n, ne_eqb (number_of e) 0 (not_none e _ refl)) (ap Err (refusal_is e _ refl))
 
   pub look_sound : check_number map store (length store) ≡ 0
       → look_of map store bank location ≡ place_of (beginner (records_of map) bank location)
@@ -67,41 +72,57 @@ module _ (map store : List ℕ) (bank location : ℕ) where
   look_sound e =
       placed_or_14 (beginner (records_of map) bank location) (look_number map store bank location) (sound_number e)
 
-  pub look_number_is : (look_of map store bank location).number ≡ look_number map store bank location
+  told : (look_number map store bank location ≡ 0 → ⊥)
+      → number_in (look_of map store bank location) ≡ look_number map store bank location
+  unfolding look_of look_number
+  told h = rw (ne_eqb (look_number map store bank location) 0 h) (number_among (look_tests map store bank location) refl _ refl h)
+
+  pub look_number_is : number_in (look_of map store bank location) ≡ look_number map store bank location
   look_number_is = go (check_number map store (length store)) refl
     where
-      of_found : (f : Beginning) → (place_of f).number ≡ (if is_found f then 0 else 14)
-      of_found (Begins r) = refl
-      of_found NoValue = refl
+      of_found : (f : Option Record) → number_in (place_of f) ≡ (if is_found f then 0 else 14)
+      of_found (Some r) = refl
+      of_found None = refl
 
       go : (n : ℕ) → check_number map store (length store) ≡ n
-          → (look_of map store bank location).number ≡ look_number map store bank location
+          → number_in (look_of map store bank location) ≡ look_number map store bank location
       go zero e = rw (look_sound e, sound_number e) (of_found (beginner (records_of map) bank location))
-      go (suc n) e = rw (look_refused (suc n) (omega arith) e, refused_number (suc n) (omega arith) e)
+      go (suc n) e = told (λ z. absurd (omega (arith, refused_number (suc n) (omega arith) e)))
 
-  -- the place lies in the store, on refusal too
-  pub look_inside : (look_of map store bank location).offset + (look_of map store bank location).width ≤ length store
-  look_inside = go (check_number map store (length store)) refl
+  -- of a place, and of a refusal
+  pub look_0 : (p : Place) → Ok p ≡ look_of map store bank location → 0 ≡ look_number map store bank location
+  look_0 p e = ap number_in e ∙ look_number_is
+
+  pub look_some : (e : Refusal) → Err e ≡ look_of map store bank location → number_of e ≡ look_number map store bank location
+  look_some e q = ap number_in q ∙ look_number_is
+
+  -- the place lies in the store
+  pub look_inside : (p : Place) → Ok p ≡ look_of map store bank location → p.offset + p.width ≤ length store
+  look_inside p e = go (check_number map store (length store)) refl
     where
-      of_found : check_number map store (length store) ≡ 0 → (f : Beginning) → beginner (records_of map) bank location ≡ f
-          → (place_of f).offset + (place_of f).width ≤ length store
-      of_found e (Begins r) q =
-          (holder_within map (length store) bank location (stands map store (length store) e).in_place r
-          (beginner_at (records_of map) bank location r q).0).inside
-      of_found e NoValue q = omega arith
+      of_found : check_number map store (length store) ≡ 0 → (f : Option Record) → beginner (records_of map) bank location ≡ f
+          → Ok p ≡ place_of f → p.offset + p.width ≤ length store
+      of_found z (Some r) q h =
+          let same : p ≡ record { width = r.width; offset = r.offset } = cc in
+          let inside = (holder_within map (length store) bank location (stands map store (length store) z).in_place r
+          (beginner_at (records_of map) bank location r q).0).inside in
+          rw same inside
+      of_found z None q h = cc
 
-      go : (n : ℕ) → check_number map store (length store) ≡ n
-          → (look_of map store bank location).offset + (look_of map store bank location).width ≤ length store
-      go zero e = rw (look_sound e) (of_found e (beginner (records_of map) bank location) refl)
-      go (suc n) e = rw (look_refused (suc n) (omega arith) e) (omega arith)
+      go : (n : ℕ) → check_number map store (length store) ≡ n → p.offset + p.width ≤ length store
+      go zero z = of_found z (beginner (records_of map) bank location) refl (e ∙ look_sound z)
+      go (suc n) z = absurd (omega (arith, look_0 p e, refused_number (suc n) (omega arith) z))
 
   -- the part that a call hands out is that place's bytes
-  pub look_part : (r : Looked) → r ≡ look_of map store bank location
-      → take (r.offset + r.width - r.offset) (drop r.offset store) ≡ look_bytes map store bank location
+  pub look_part : (p : Place) → Ok p ≡ look_of map store bank location
+      → take (p.offset + p.width - p.offset) (drop p.offset store) ≡ look_bytes map store bank location
   unfolding look_bytes part
-  look_part r e =
-      ap (λ (n : ℕ). take n (drop r.offset store)) (add-sub_cancel_left r.offset r.width)
-      ∙ ap (λ (l : Looked). take l.width (drop l.offset store)) e
+  look_part p e =
+      ap (λ (n : ℕ). take n (drop p.offset store)) (add-sub_cancel_left p.offset p.width) ∙ ap (bytes_at store) e
+
+  pub look_none : (e : Refusal) → Err e ≡ look_of map store bank location → [] ≡ look_bytes map store bank location
+  unfolding look_bytes
+  look_none e q = ap (bytes_at store) q
 
   -- a look with number 0 passed 7 to 11
   pub look_checked : look_number map store bank location ≡ 0 → check_number map store (length store) ≡ 0
@@ -122,8 +143,8 @@ look_shows map store bank location e = go (beginner (records_of map) bank locati
     sound : check_number map store (length store) ≡ 0
     sound = look_checked map store bank location e
 
-    go : (f : Beginning) → beginner (records_of map) bank location ≡ f → (r : Record) × Shows map store bank location r
-    go (Begins r) q =
+    go : (f : Option Record) → beginner (records_of map) bank location ≡ f → (r : Record) × Shows map store bank location r
+    go (Some r) q =
         let b = beginner_at (records_of map) bank location r q in
         let k = holder_at bank location (records_of map) r b.0 in
         let place = look_sound map store bank location sound ∙ ap place_of q in (
@@ -136,7 +157,7 @@ look_shows map store bank location e = go (beginner (records_of map) bank locati
             bytes = rw place;
           },
         )
-    go NoValue q =
+    go None q =
         let n = ap {B = ℕ} (λ f. if is_found f then 0 else 14) q in
         absurd (omega (arith, sym e ∙ sound_number map store bank location sound ∙ n))
 

@@ -1,6 +1,6 @@
 -- What is proved of the looks. The proofs stand in proofs/Looks.antt.
 -- Assumes nothing.
-use Rattle.std.specs.Prelude.{◌≡◌, ◌↔◌, List, [], ℕ, ◌<◌, length}
+use Rattle.std.specs.Prelude.{◌≡◌, ◌↔◌, List, [], ℕ, ◌<◌, length, Result, Ok}
 use Rattle.laws.specs.Numbers.{Given}
 use Rattle.laws.specs.Settled.{Settles}
 use Rattle.records.specs.Facts.{Member}
@@ -8,7 +8,8 @@ use Rattle.records.specs.declared.record.Record.{Record}
 use Rattle.banks.specs.Values.{value_of}
 use Rattle.banks.specs.Facts.{Stands}
 use Rattle.looks.specs.Look.{look_tests, look_number, look_of, look_bytes}
-use Rattle.looks.specs.declared.looked.Looked.{Looked}
+use Rattle.refusals.specs.declared.refusal.Refusal.{Refusal}
+use Rattle.looks.specs.declared.looked.Place.{Place}
 
 -- 7 to 11 and 14 are given exactly if every test before passes and that one fails
 abbrev pub LookNumbers : Type 0
@@ -28,7 +29,7 @@ pub record Shows (map store : List ℕ) (bank location : ℕ) (r : Record) : Typ
   pub member : Member r map
   pub its_bank : r.bank ≡ bank
   pub begins : r.first ≡ location
-  pub place : look_of map store bank location ≡ record { number = 0; width = r.width; offset = r.offset }
+  pub place : look_of map store bank location ≡ Ok (record { width = r.width; offset = r.offset })
   pub bytes : look_bytes map store bank location ≡ value_of r store
 
 -- the number is 0: the value that begins there, its place and its bytes
@@ -46,7 +47,7 @@ LookEmpty =
 -- What each public call promises of its result r, or of the bytes of its part. Answers that meet the same promise are
 -- equal; of `look`, the bytes of the part are.
 
-abbrev pub LookAtPromise : List ℕ → List ℕ → ℕ → ℕ → Looked → Type 0
+abbrev pub LookAtPromise : List ℕ → List ℕ → ℕ → ℕ → Result Place Refusal → Type 0
 LookAtPromise map store bank location r = r ≡ look_of map store bank location
 
 abbrev pub LookNumberPromise : List ℕ → List ℕ → ℕ → ℕ → ℕ → Type 0

@@ -3,4 +3,4 @@
 
 mod looked; // number, place and bytes
 
-pub use looked::{Looked, look, look_at, look_number};
+pub use looked::{Place, look, look_at, look_number};

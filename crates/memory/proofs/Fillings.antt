@@ -7,22 +7,20 @@ use mathlib.Core.Bool.{Bool, true, false}
 use mathlib.Core.List.{List}
 use native.Mathlib.Omega.{arith}
 use native.Mathlib.Nat.{sub-zero}
-use borrow.Author.Count.{below_more}
 use borrow.Author.Tests.{leb-true}
-use lib.ListN.{length, get_or, set}
-use lib.Seq.{get_or-set_same, get_or-set_other}
+use lib.ListN.{length, get_or}
 use Rattle.std.specs.Prelude.{if◌then◌else◌}
 use Rattle.laws.proofs.Items.{items_cons}
 use Rattle.laws.proofs.Sides.{and_left, and_right}
 use Rattle.records.specs.Map.{record_at, records_of, places_end}
 use Rattle.records.specs.Order.{size_holds, ordered}
 use Rattle.records.specs.declared.record.Record.{Record}
-use Rattle.records.proofs.Walk.{at_end, member}
+use Rattle.records.proofs.Walk.{member}
 use Rattle.records.proofs.Members.{member_fields}
 use Rattle.banks.specs.Rules.{placed}
 use Rattle.banks.specs.Values.{put_value}
 use Rattle.banks.proofs.Places.{placed_ordered, member_inside}
-use Rattle.memory.specs.Filled.{chosen, fresh, filled_by, filled_of, filled_from, PickedTo, Picked}
+use Rattle.memory.specs.Filled.{chosen, fresh, filled_by, filled_of, filled_from, Picked}
 use Rattle.memory.specs.declared.filled.Filling.{Filling}
 
 -- a map that is in order has at most 64 records
@@ -33,24 +31,10 @@ few map n p =
     let h : length map ≤ 512 = leb-true (length map) 512 (search (and_left, and_right)) in
     omega arith
 
--- one more record is decided
-pub pick_more : (map store : List ℕ) (filling : Filling) (picks : List Bool) (i : ℕ)
-    → PickedTo map store filling picks i → i < length picks
-    → (r : Record) → r ≡ record_at map i → (b : Bool) → b ≡ chosen (records_of map) store filling r
-    → PickedTo map store filling (set picks i b) (i + 1)
-pick_more map store filling picks i before l r e b q =
-    below_more (λ (j : ℕ). get_or (set picks i b) j false ≡ chosen (records_of map) store filling (record_at map j)) i
-    (λ j h. get_or-set_other picks i j b false (λ z. omega arith) ∙ before j h)
-    (get_or-set_same picks i b false l ∙ q ∙ ap (chosen (records_of map) store filling) e)
-
 module _ (map store image : List ℕ) (picks : List Bool) where
   -- the records from number i on are done
   abbrev pub Done : List ℕ → ℕ → Type 0
   Done s i = (filling : Filling) → Picked map store filling picks → s ≡ filled_from map store image filling i
-
-  pub done_none : (n : ℕ) → n ≡ length map / 8 → Done store n
-  done_none n k filling t =
-      sym (ap (filled_by (chosen (records_of map) store filling) image store) (at_end map (length map / 8) n (omega arith)))
 
   pub done_all : (i : ℕ) (s : List ℕ) → i ≡ 0 → Done s i → (filling : Filling) → Picked map store filling picks
       → s ≡ filled_of (records_of map) store image filling

@@ -10,7 +10,7 @@ use lib.Dec.{leb, ltb, eqb}
 use lib.ListN.{length, take, length-append}
 use lib.Seq.{length-take-le, take_at}
 use borrow.Author.Tests.{eqb-true, eqb-false, leb-true, ltb-true, ltb-false, le-leb, lt-ltb, le-ltb, eq-eqb, ne_eqb}
-use Rattle.std.specs.Prelude.{if◌then◌else◌}
+use Rattle.std.specs.Prelude.{if◌then◌else◌, Some, Result, Ok, Err}
 use Rattle.laws.specs.Outcome.{Outcome, leaves}
 use Rattle.laws.proofs.Tests.{both, and_of, clash}
 use Rattle.laws.proofs.Sides.{or_left, or_right}
@@ -18,9 +18,7 @@ use Rattle.records.specs.Map.{records_of, writable, locations_end}
 use Rattle.records.specs.Lookup.{holder, beginner}
 use Rattle.records.specs.Facts.{Member, FieldsHold, Holds}
 use Rattle.records.specs.declared.record.Record.{Record}
-use Rattle.records.specs.declared.holder.Beginning.TheVariants.{Begins}
-use Rattle.records.specs.declared.holder.Found.{Found}
-use Rattle.records.specs.declared.holder.Found.TheVariants.{At, Missing}
+use Rattle.records.specs.declared.holder.Why.{Why}
 use Rattle.records.proofs.Locations.{holder_hit, first_found}
 use Rattle.records.proofs.Members.{member_fields}
 use Rattle.banks.specs.Rules.{placed}
@@ -154,8 +152,8 @@ module _ (map store : List ℕ) (p : placed map (length store) ≡ true) (g : St
       let b : g.bank ≡ v.bank = eqb-true _ _ c.1 in
       let f : g.first ≡ v.first = eqb-true _ _ q.1 in
       let s = staged_said (records_of map) store g holding (λ z. omega arith) in
-      let x : beginner (records_of map) g.bank g.first ≡ Begins s.0 = s.1.begins in
-      let y : beginner (records_of map) v.bank v.first ≡ Begins v =
+      let x : beginner (records_of map) g.bank g.first ≡ Some s.0 = s.1.begins in
+      let y : beginner (records_of map) v.bank v.first ≡ Some v =
       (first_found map (placed_ordered map (length store) p) v m).1 in
       let same : s.0 ≡ v = cc in
       record { some = n; bank_is = b; first_is = f; short = rw same at s.1.not_all; is = rw e }
@@ -298,9 +296,9 @@ module _ (map store : List ℕ) (p : placed map (length store) ≡ true) (g : St
           let x : r.bank ≡ v.bank = eqb-true _ _ c.1 in
           let y : r.first ≡ v.first = eqb-true _ _ q.1 in
           let n : Member r map = (holder_within map (length store) bank location p r t.found).member in
-          let f : holder (records_of map) r.bank r.first ≡ At r =
+          let f : holder (records_of map) r.bank r.first ≡ Ok r =
           (first_found map (placed_ordered map (length store) p) r n).0 in
-          let h : holder (records_of map) v.bank v.first ≡ At v =
+          let h : holder (records_of map) v.bank v.first ≡ Ok v =
           (first_found map (placed_ordered map (length store) p) v m).0 in
           absurd (no' (cc))
       not_v false b = refl
@@ -317,7 +315,7 @@ module _ (map store : List ℕ) (p : placed map (length store) ≡ true) (g : St
       drops : ((r : Record) → Takes (records_of map) store g bank location r → ⊥) → staged_for v W.answer.staged ≡ []
       drops n = rw (write_drops (records_of map) store g bank location byte n) (none_staged_for v)
 
-      pick : (r : Record) → holder (records_of map) bank location ≡ At r → (b : Bool)
+      pick : (r : Record) → holder (records_of map) bank location ≡ Ok r → (b : Bool)
           → taken (records_of map) store g r location ≡ b
           → staged_for v W.answer.staged ≡ []
       pick r f true b =
@@ -327,9 +325,9 @@ module _ (map store : List ℕ) (p : placed map (length store) ≡ true) (g : St
           drops (λ q t. let z : r ≡ q = cc t.found in
           clash (taken (records_of map) store g r location) (rw z t.took) b)
 
-      go : (f : Found) → holder (records_of map) bank location ≡ f → staged_for v W.answer.staged ≡ []
-      go (Missing w) f = drops (λ r t. let z : ◌≡◌ {A = ℕ} 0 1 = cc t.found in omega arith)
-      go (At r) f = pick r f (taken (records_of map) store g r location) refl
+      go : (f : Result Record Why) → holder (records_of map) bank location ≡ f → staged_for v W.answer.staged ≡ []
+      go (Err w) f = drops (λ r t. let z : ◌≡◌ {A = ℕ} 0 1 = cc t.found in omega arith)
+      go (Ok r) f = pick r f (taken (records_of map) store g r location) refl
 
   -- an executed write, seen from a writable value
   pub write_seen : Seen v store (taking v (staged_for v g) (unlocked (records_of map) store v) bank location byte)

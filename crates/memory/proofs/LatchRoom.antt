@@ -10,14 +10,14 @@ use borrow.Author.Tests.{eq-eqb, ne_eqb, eqb-true, leb-true, leb-false}
 use lib.Dec.{leb, eqb}
 use lib.ListN.{length, get_or}
 use lib.Seq.{take_at}
+use Rattle.std.specs.Prelude.{Result, Ok, Err}
 use Rattle.laws.proofs.Tests.{if_by, both, and_of}
 use Rattle.laws.proofs.Choosing.{if_yes, if_no, refuted}
 use Rattle.laws.proofs.Parts.{length_part}
 use Rattle.records.specs.Map.{records_of}
 use Rattle.records.specs.Lookup.{holder}
 use Rattle.records.specs.declared.record.Record.{Record}
-use Rattle.records.specs.declared.holder.Found.{Found}
-use Rattle.records.specs.declared.holder.Found.TheVariants.{At, Missing}
+use Rattle.records.specs.declared.holder.Why.{Why}
 use Rattle.records.proofs.Locations.{first_found}
 use Rattle.banks.specs.Rules.{placed}
 use Rattle.banks.specs.Values.{value_of, padded}
@@ -97,7 +97,7 @@ unfolding latch_holds zero_from
 none_latched_holds rs = refl
 
 module _ (map store : List ℕ) (p : placed map (length store) ≡ true) (bank location : ℕ) (r : Record)
-    (f : holder (records_of map) bank location ≡ At r) where
+    (f : holder (records_of map) bank location ≡ Ok r) where
   within : Within map (length store) bank location r
   within = holder_within map (length store) bank location p r f
 
@@ -127,7 +127,7 @@ pub read_keeps_rule : ReadKeepsRule
 unfolding read_byte read_at
 read_keeps_rule map store p l e bank location = go (holder (records_of map) bank location) refl
   where
-    go : (f : Found) → holder (records_of map) bank location ≡ f
+    go : (f : Result Record Why) → holder (records_of map) bank location ≡ f
         → latch_holds (records_of map) (read_at store l location f).latch ≡ true
-    go (At r) q = shown_holds map store p bank location r q l e (location - r.first)
-    go (Missing w) q = e
+    go (Ok r) q = shown_holds map store p bank location r q l e (location - r.first)
+    go (Err w) q = e

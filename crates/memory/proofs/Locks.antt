@@ -9,13 +9,12 @@ use native.Mathlib.Omega.{arith}
 use borrow.Author.Tests.{eq-eqb, eqb-false, lt-ltb, le-leb}
 use lib.Dec.{eqb}
 use lib.ListN.{get_or}
-use Rattle.std.specs.Prelude.{if◌then◌else◌}
+use Rattle.std.specs.Prelude.{if◌then◌else◌, Ok}
 use Rattle.laws.proofs.Sides.{chosen}
 use Rattle.laws.proofs.PartBytes.{first_byte}
 use Rattle.records.specs.Map.{records_of}
 use Rattle.records.specs.Lookup.{holder}
 use Rattle.records.specs.declared.record.Record.{Record}
-use Rattle.records.specs.declared.holder.Found.TheVariants.{At}
 use Rattle.records.proofs.Locations.{holds_is, holder_at, beginner_at, mapped_member}
 use Rattle.banks.specs.Rules.{is_lock}
 use Rattle.banks.specs.Values.{value_of, byte_at, lock_byte}
@@ -51,12 +50,12 @@ module _ (map : List ℕ) (bank : ℕ) (l : Record) (q : LockRecord map bank l) 
   lock_chosen store (Reset dtr0) = rw (eq-eqb l.kind 2 q.its_kind, q.its_bank)
 
   -- the lock byte is the lock record's byte
-  pub lock_byte_lem : holder (records_of map) bank 0x02 ≡ At l → (store : List ℕ)
+  pub lock_byte_lem : holder (records_of map) bank 0x02 ≡ Ok l → (store : List ℕ)
       → lock_byte (records_of map) store bank ≡ get_or (value_of l store) 0 0
   unfolding lock_byte byte_at value_of
   lock_byte_lem h store = rw h (sym (first_byte l.offset l.width store (omega (arith, q.its_width))))
 
-  byte_after : holder (records_of map) bank 0x02 ≡ At l → (store image : List ℕ) (b : Bool)
+  byte_after : holder (records_of map) bank 0x02 ≡ Ok l → (store image : List ℕ) (b : Bool)
       → get_or (if b then fresh image l else value_of l store) 0 0
       ≡ (if b then 0xFF else lock_byte (records_of map) store bank)
   byte_after h store image true = ap (λ (bs : List ℕ). get_or bs 0 0) (lock_fresh image l is_lock_lem)

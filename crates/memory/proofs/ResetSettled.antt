@@ -1,6 +1,6 @@
 -- What is told of a reset tells every byte: those of each value, and those under no record.
 -- Assumes nothing.
-use Prim.Native.Nat.{ℕ, suc, ◌+◌, ◌-◌, ◌≤◌, ◌<◌}
+use Prim.Native.Nat.{ℕ, ◌+◌, ◌-◌, ◌≤◌, ◌<◌}
 use mathlib.Core.Path.{◌≡◌, refl, ap, sym, ◌∙◌}
 use mathlib.Core.Logic.{◌⊎◌, inl, inr}
 use mathlib.Core.Bool.{Bool, true, false}
@@ -10,13 +10,14 @@ use borrow.Author.Tests.{eqb-true, eqb-false, ltb-true, ltb-false}
 use lib.Dec.{eqb, ltb}
 use lib.ListN.{length, get_or}
 use lib.Seq.{get_or-take, get_or-drop}
+use Rattle.std.proofs.lemmas.Grind.{same_number_lists}
+use Rattle.std.specs.Prelude.{Ok}
 use Rattle.laws.specs.Parts.{part}
 use Rattle.laws.proofs.Parts.{length_part}
 use Rattle.records.specs.Map.{records_of, places_end}
 use Rattle.records.specs.Lookup.{holder}
 use Rattle.records.specs.Facts.{Member}
 use Rattle.records.specs.declared.record.Record.{Record}
-use Rattle.records.specs.declared.holder.Found.TheVariants.{At}
 use Rattle.records.proofs.Members.{member_fields}
 use Rattle.records.proofs.Locations.{holder_hit, mapped_member}
 use Rattle.banks.specs.Values.{value_of, lock_byte}
@@ -39,13 +40,6 @@ single : (bs : List ℕ) → length bs ≡ 1 → bs ≡ get_or bs 0 0 ∷ []
 single [] l = absurd (omega arith)
 single (b ∷ []) l = refl
 single (b ∷ c ∷ bs) l = absurd (omega arith)
-
-same_bytes : (s t : List ℕ) → length s ≡ length t → ((j : ℕ) → j < length s → get_or s j 0 ≡ get_or t j 0) → s ≡ t
-same_bytes [] [] l h = refl
-same_bytes [] (y ∷ t) l h = absurd (omega arith)
-same_bytes (x ∷ s) [] l h = absurd (omega arith)
-same_bytes (x ∷ s) (y ∷ t) l h =
-    λ i. h 0 (omega arith) i ∷ same_bytes s t (omega arith) (λ j k. h (suc j) (omega arith)) i
 
 -- a byte of a value
 value_byte : (r : Record) (store : List ℕ) (j : ℕ) → r.offset ≤ j → j < places_end r
@@ -111,10 +105,10 @@ module _ (map store image : List ℕ) (S : Stands map store (length image)) (dtr
   lock_value r m h e after t l =
       let f = member_fields map S.in_order r m in
       let x = has_lock map S.in_order S.banks r.bank h ((mapped_member map r.bank).1 (r, m, refl)) in
-      let here : holder rs r.bank 0x02 ≡ At r =
+      let here : holder rs r.bank 0x02 ≡ Ok r =
       holder_hit map S.in_order r.bank 0x02 r m
       (record { same_bank = refl; from = omega arith; to = omega (arith, f.some_width) }) in
-      let there : holder rs r.bank 0x02 ≡ At x.0 = x.2 in
+      let there : holder rs r.bank 0x02 ≡ Ok x.0 = x.2 in
       let same : x.0 ≡ r = cc in
       let q : LockRecord map r.bank r = rw same at x.1 in
       let n = member_inside map (length store) S.in_place r m in
@@ -166,5 +160,5 @@ module _ (map store image : List ℕ) (S : Stands map store (length image)) (dtr
 
 pub reset_settled : ResetSettled
 reset_settled map store image S dtr0 a b A B =
-    same_bytes a b (A.as_long ∙ sym B.as_long)
+    same_number_lists a b (A.as_long ∙ sym B.as_long)
     (λ j h. same_byte map store image S dtr0 a b A B j (under_or_clear (records_of map) j))

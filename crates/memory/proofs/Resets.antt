@@ -9,6 +9,7 @@ use native.Mathlib.Omega.{arith}
 use borrow.Author.Tests.{eq-eqb, ne_eqb, eqb-true, eqb-false, leb-true, leb-false}
 use lib.Dec.{eqb}
 use lib.ListN.{length}
+use Rattle.std.specs.Prelude.{Result, Ok, Err}
 use Rattle.laws.proofs.Tests.{and_of}
 use Rattle.laws.proofs.Sides.{either, or_left, or_right, and_left, and_right}
 use Rattle.laws.proofs.Sides.{chosen as side}
@@ -16,8 +17,7 @@ use Rattle.records.specs.Map.{records_of, writable, mapped}
 use Rattle.records.specs.Lookup.{holder}
 use Rattle.records.specs.Facts.{Member}
 use Rattle.records.specs.declared.record.Record.{Record}
-use Rattle.records.specs.declared.holder.Found.{Found}
-use Rattle.records.specs.declared.holder.Found.TheVariants.{At, Missing}
+use Rattle.records.specs.declared.holder.Why.{Why}
 use Rattle.records.proofs.Locations.{mapped_member}
 use Rattle.banks.specs.Values.{value_of, byte_at, lock_byte}
 use Rattle.banks.specs.Facts.{Stands}
@@ -113,11 +113,11 @@ module _ (map store image : List ℕ) (S : Stands map store (length image)) (dtr
   unfolding lock_byte byte_at
   has_record bank = go (holder rs bank 0x02) refl
     where
-      go : (f : Found) → holder rs bank 0x02 ≡ f → byte_at store f ≡ 0x55 → mapped rs bank ≡ true
-      go (At r) f l =
+      go : (f : Result Record Why) → holder rs bank 0x02 ≡ f → byte_at store f ≡ 0x55 → mapped rs bank ≡ true
+      go (Ok r) f l =
           let w = holder_within map (length store) bank 0x02 S.in_place r f in
           (mapped_member map bank).1 (r, w.member, w.holds.same_bank)
-      go (Missing w) f l = absurd (omega arith)
+      go (Err w) f l = absurd (omega arith)
 
   resets : (bank : ℕ) → 1 ≤ bank → selects dtr0 bank ≡ true → lock_byte rs store bank ≡ 0x55
       → BankReset map image after bank

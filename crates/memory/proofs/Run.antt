@@ -11,11 +11,11 @@ use borrow.Author.Tests.{eq-eqb, ne_eqb, le-leb}
 use lib.Dec.{eqb}
 use lib.ListN.{length, take, set, replicate, length-set}
 use lib.Seq.{take-suc-set}
+use Rattle.std.specs.Prelude.{Ok}
 use Rattle.laws.specs.Outcome.{Outcome, leaves}
 use Rattle.records.specs.Map.{records_of, writable}
 use Rattle.records.specs.Lookup.{holder}
 use Rattle.records.specs.declared.record.Record.{Record}
-use Rattle.records.specs.declared.holder.Found.TheVariants.{At}
 use Rattle.records.proofs.Members.{member_fields}
 use Rattle.records.proofs.Locations.{holder_hit}
 use Rattle.banks.specs.Values.{put_value}
@@ -28,7 +28,7 @@ use Rattle.memory.proofs.Writes.{write_more, write_last}
 
 module _ (rs : List Record) (store : List ℕ) (r : Record) (small : r.width ≤ 8)
     (W : writable r ≡ true) (U : unlocked rs store r ≡ true)
-    (F : (i : ℕ) → i < r.width → holder rs r.bank (r.first + i) ≡ At r) where
+    (F : (i : ℕ) → i < r.width → holder rs r.bank (r.first + i) ≡ Ok r) where
   -- the next byte is number k of the value, and the ones before it are the first of these eight
   record Ready (k : ℕ) (g : Staged) (bytes : List ℕ) : Type 0 where
     pub takes : taken rs store g r (r.first + k) ≡ true

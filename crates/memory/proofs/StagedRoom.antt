@@ -10,15 +10,13 @@ use borrow.Author.Tests.{eq-eqb, ne_eqb, eqb-false, ltb-true, lt-ltb, le-leb}
 use lib.Dec.{eqb}
 use lib.ListN.{length, take, length-append}
 use lib.Seq.{length-take-le, take_at}
-use Rattle.std.specs.Prelude.{if◌then◌else◌}
+use Rattle.std.specs.Prelude.{if◌then◌else◌, Option, Some, None}
 use Rattle.laws.specs.Outcome.{Outcome, leaves}
 use Rattle.laws.proofs.Tests.{if_eq}
 use Rattle.laws.proofs.Sides.{and_left, and_right, chosen}
 use Rattle.records.specs.Map.{records_of, writable, locations_end}
 use Rattle.records.specs.Lookup.{beginner}
 use Rattle.records.specs.declared.record.Record.{Record}
-use Rattle.records.specs.declared.holder.Beginning.{Beginning}
-use Rattle.records.specs.declared.holder.Beginning.TheVariants.{Begins, NoValue}
 use Rattle.records.proofs.Locations.{first_found}
 use Rattle.banks.specs.Rules.{placed}
 use Rattle.banks.specs.Values.{value_of, put_value, padded}
@@ -39,7 +37,7 @@ none_staged_holds rs store = refl
 
 -- what the rule says where something is staged
 pub record StagedOf (rs : List Record) (store : List ℕ) (g : Staged) (r : Record) : Type 0 where
-  pub begins : beginner rs g.bank g.first ≡ Begins r
+  pub begins : beginner rs g.bank g.first ≡ Some r
   pub writes : writable r ≡ true
   pub opens : unlocked rs store r ≡ true
   pub not_all : g.count < r.width
@@ -50,9 +48,9 @@ module _ (rs : List Record) (store : List ℕ) (g : Staged) (e : staged_holds rs
   unfolding staged_holds staged_in
   staged_said n = go (beginner rs g.bank g.first) refl (rw (ne_eqb g.count 0 n) at e)
     where
-      go : (f : Beginning) → beginner rs g.bank g.first ≡ f → staged_in rs store g f ≡ true
+      go : (f : Option Record) → beginner rs g.bank g.first ≡ f → staged_in rs store g f ≡ true
           → (r : Record) × StagedOf rs store g r
-      go (Begins r) b t = (
+      go (Some r) b t = (
         r,
         record {
           begins = b;
@@ -62,7 +60,7 @@ module _ (rs : List Record) (store : List ℕ) (g : Staged) (e : staged_holds rs
           zero = search (and_left, and_right) depth 6;
         },
       )
-      go NoValue b t = let z : ◌≡◌ {A = ℕ} 0 1 = cc in absurd (omega arith)
+      go None b t = let z : ◌≡◌ {A = ℕ} 0 1 = cc in absurd (omega arith)
 
   pub staged_room : length g.bytes ≡ 8
   unfolding staged_holds

@@ -10,6 +10,7 @@ use native.Mathlib.Omega.{arith}
 use borrow.Author.Tests.{eq-eqb, ne_eqb, eqb-true, leb-true}
 use lib.Dec.{eqb}
 use lib.ListN.{take}
+use Rattle.std.specs.Prelude.{Result, Ok, Err}
 use Rattle.laws.specs.Outcome.{Outcome, leaves}
 use Rattle.laws.proofs.Tests.{if_by, if_eq}
 use Rattle.laws.proofs.Sides.{either, and_left, and_right}
@@ -18,8 +19,7 @@ use Rattle.records.specs.Lookup.{holder}
 use Rattle.records.specs.Facts.{Holds}
 use Rattle.records.proofs.Locations.{holds_is, holder_at}
 use Rattle.records.specs.declared.record.Record.{Record}
-use Rattle.records.specs.declared.holder.Found.{Found}
-use Rattle.records.specs.declared.holder.Found.TheVariants.{At, Missing}
+use Rattle.records.specs.declared.holder.Why.{Why}
 use Rattle.banks.specs.Values.{put_value}
 use Rattle.memory.specs.Staged.{none_staged, is_next, unlocked, taken, bytes_with, staged_of, wrote, take_byte}
 use Rattle.memory.specs.Staged.{dropped, write_found, write_at, write_byte}
@@ -82,15 +82,15 @@ module _ (rs : List Record) (store : List ℕ) (g : Staged) (bank location byte 
   unfolding write_byte write_at write_found take_byte
   write_cases P none more last = go (holder rs bank location) refl
     where
-      go : (f : Found) → holder rs bank location ≡ f → P (write_at rs store g location byte f)
-      go (At r) e =
+      go : (f : Result Record Why) → holder rs bank location ≡ f → P (write_at rs store g location byte f)
+      go (Ok r) e =
           if_by P (taken rs store g r location)
           (λ t.
           if_eq P (number r + 1) r.width
           (λ w. last r (record { found = e; took = t }) w)
           (λ w. more r (record { found = e; took = t }) w))
           (λ t. none)
-      go (Missing w) e = none
+      go (Err w) e = none
 
   module _ (r : Record) (t : TakesIt r) where
     pub write_more : (number r + 1 ≡ r.width → ⊥) → write_byte rs store g bank location byte ≡ stages r

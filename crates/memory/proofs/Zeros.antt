@@ -2,14 +2,14 @@
 -- Assumes nothing.
 use Prim.Native.Nat.{ℕ, zero, suc, ◌+◌, ◌-◌, ◌≤◌, ◌<◌}
 use mathlib.Core.Path.{◌≡◌, refl, ap, sym, ◌∙◌}
-use mathlib.Core.Bool.{Bool, true, false}
+use mathlib.Core.Bool.{Bool, true}
 use mathlib.Core.List.{List, [], ◌∷◌, ◌++◌, append_assoc}
 use native.Mathlib.Omega.{arith}
 use native.Mathlib.Numerals.{add-one}
-use borrow.Author.Tests.{eq-eqb, ne_eqb, eqb-true}
+use borrow.Author.Tests.{eq-eqb, eqb-true}
 use lib.Dec.{eqb}
 use lib.ListN.{length, take, drop, set, get_or, replicate}
-use lib.ListN.{length-append, length-drop, length-replicate, drop_of_length-le}
+use lib.ListN.{length-append, length-drop, length-replicate}
 use lib.Seq.{length-take-le, drop-cons, drop-append_seam, set_split}
 use Rattle.laws.specs.Lists.{every}
 use Rattle.laws.proofs.Tests.{both}
@@ -19,22 +19,10 @@ use Rattle.memory.specs.Rules.{zero_from}
 abbrev zeros : List ℕ → Bool
 zeros bs = every (λ b. eqb b 0) bs
 
--- while i < 8: byte number i, and those from i + 1 on
+-- byte number i, and those from i + 1 on
 module _ (bytes : List ℕ) (i : ℕ) (h : i < 8) (l : length bytes ≡ 8) where
   next : drop i bytes ≡ get_or bytes i 0 ∷ drop (i + 1) bytes
   next = drop-cons bytes i 0 (omega arith) ∙ ap (λ (k : ℕ). get_or bytes i 0 ∷ drop k bytes) (sym (add-one i))
-
-  pub zero_fails : (get_or bytes i 0 ≡ 0 → ⊥) → zero_from i bytes ≡ false
-  unfolding zero_from
-  zero_fails t = rw (eq-eqb (length bytes) 8 l) (ap zeros next ∙ rw (ne_eqb (get_or bytes i 0) 0 t))
-
-  pub zero_goes_on : get_or bytes i 0 ≡ 0 → zero_from i bytes ≡ zero_from (i + 1) bytes
-  unfolding zero_from
-  zero_goes_on t = rw (eq-eqb (length bytes) 8 l) (ap zeros next ∙ rw (eq-eqb (get_or bytes i 0) 0 t))
-
-pub zero_all : (bytes : List ℕ) (i : ℕ) → 8 ≤ i → length bytes ≡ 8 → zero_from i bytes ≡ true
-unfolding zero_from
-zero_all bytes i h l = rw (eq-eqb (length bytes) 8 l) (ap zeros (drop_of_length-le bytes {i = i} (omega arith)))
 
 -- a room has eight bytes
 pub room_bytes : (used : ℕ) (bytes : List ℕ) → zero_from used bytes ≡ true → length bytes ≡ 8

@@ -1,7 +1,7 @@
 -- Worked cases on a map with banks 1 and 2: RESET MEMORY BANK by DTR0 and lock bytes, and what READ answers and leaves
 -- latched. Two tables and two statements. Paper 01, "Commands obeyed". Proved in proofs/Cases.antt.
 -- Assumes nothing.
-use Rattle.std.specs.Prelude.{◌≡◌, true, false, List, [], ◌∷◌, ◌++◌, map, ℕ, replicate}
+use Rattle.std.specs.Prelude.{◌≡◌, true, false, Some, None, List, [], ◌∷◌, ◌++◌, map, ℕ, replicate}
 use Rattle.records.specs.Map.{records_of}
 use Rattle.records.specs.Cases.{map_row}
 use Rattle.memory.specs.Latched.{read_byte}
@@ -73,7 +73,7 @@ reads before bank location after byte =
       before = before;
       bank = bank;
       location = location;
-      shows = record { latch = after; answered = true; answer = byte };
+      shows = record { latch = after; answer = Some byte };
     }
 
 abbrev none : Latch
@@ -101,7 +101,7 @@ read_cases =
     ∷ reads old 2 0x03 (value 2 0x21 0x22) 0x21
     ∷ reads none 2 0x03 (value 2 0x21 0x22) 0x21
     -- no answer at an unmapped location, and the latch stays
-    ∷ record { before = old; bank = 1; location = 0x05; shows = record { latch = old; answered = false; answer = 0 } }
+    ∷ record { before = old; bank = 1; location = 0x05; shows = record { latch = old; answer = None } }
     ∷ []
 
 abbrev read_case : ReadCase → Shown

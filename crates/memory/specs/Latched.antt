@@ -1,10 +1,9 @@
 -- READ in a mapped bank, and the latch. Paper 01, "Commands obeyed".
 -- Assumes nothing.
-use Rattle.std.specs.Prelude.{ℕ, ◌-◌, Bool, true, false, ◌&&◌, List, leb, eqb, get_or, replicate, if◌then◌else◌}
+use Rattle.std.specs.Prelude.{ℕ, ◌-◌, Bool, true, false, ◌&&◌, List, Some, None, leb, eqb, get_or, replicate, if◌then◌else◌, Result, Ok, Err}
 use Rattle.records.specs.Lookup.{holder}
 use Rattle.records.specs.declared.record.Record.{Record}
-use Rattle.records.specs.declared.holder.Found.{Found}
-use Rattle.records.specs.declared.holder.Found.TheVariants.{At, Missing}
+use Rattle.records.specs.declared.holder.Why.{Why}
 use Rattle.banks.specs.Values.{value_of, padded}
 use Rattle.memory.specs.declared.latched.Latch.{Latch}
 use Rattle.memory.specs.declared.latched.Shown.{Shown}
@@ -25,7 +24,7 @@ abbrev pub latches : Latch → Record → Bool
 latches l r = l.held && eqb l.bank r.bank && eqb l.first r.first
 
 abbrev pub shown : Latch → ℕ → Shown
-shown l byte = record { latch = l; answered = true; answer = byte }
+shown l byte = record { latch = l; answer = Some byte }
 
 -- byte number k of the value: a later byte of the latched value is answered from the latch
 unfoldable pub show_byte : Latch → Record → List ℕ → ℕ → Shown
@@ -35,9 +34,9 @@ show_byte l r value k =
     else shown l (get_or value k 0)
 
 -- answer the byte, or none if the location is unmapped
-unfoldable pub read_at : List ℕ → Latch → ℕ → Found → Shown
-read_at store l location (At r) = show_byte l r (value_of r store) (location - r.first)
-read_at store l location (Missing w) = record { latch = l; answered = false; answer = 0 }
+unfoldable pub read_at : List ℕ → Latch → ℕ → Result Record Why → Shown
+read_at store l location (Ok r) = show_byte l r (value_of r store) (location - r.first)
+read_at store l location (Err w) = record { latch = l; answer = None }
 
 unfoldable pub read_byte : List Record → List ℕ → Latch → ℕ → ℕ → Shown
 read_byte rs store l bank location = read_at store l location (holder rs bank location)

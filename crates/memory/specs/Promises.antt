@@ -1,13 +1,12 @@
 -- What the floors above lean on: what a write, a read and a fill leave of the store and of the rooms. The proofs stand
 -- in proofs/.
 -- Assumes nothing.
-use Rattle.std.specs.Prelude.{◌≡◌, ◌⊎◌, Bool, true, false, ◌&&◌, List, [], ◌∷◌, ◌++◌, ℕ, ◌+◌, ◌-◌, ◌≤◌, ◌<◌, eqb, length, take, get_or, if◌then◌else◌}
+use Rattle.std.specs.Prelude.{◌≡◌, ◌⊎◌, Bool, true, false, ◌&&◌, None, List, [], ◌∷◌, ◌++◌, ℕ, ◌+◌, ◌-◌, ◌≤◌, ◌<◌, eqb, length, take, get_or, if◌then◌else◌, Ok, Err}
 use Rattle.laws.specs.Outcome.{Outcome, leaves}
 use Rattle.records.specs.Map.{records_of, writable, mapped, locations_end, places_end}
 use Rattle.records.specs.Lookup.{holder}
 use Rattle.records.specs.Facts.{Member}
 use Rattle.records.specs.declared.record.Record.{Record}
-use Rattle.records.specs.declared.holder.Found.TheVariants.{At, Missing}
 use Rattle.records.specs.declared.holder.Why.{Why}
 use Rattle.banks.specs.Rules.{placed, check_number}
 use Rattle.banks.specs.Values.{value_of, put_value, lock_byte, padded}
@@ -46,7 +45,7 @@ StandsStays =
 
 -- the byte at the bank and location is taken, for the value r
 pub record Takes (rs : List Record) (store : List ℕ) (g : Staged) (bank location : ℕ) (r : Record) : Type 0 where
-  pub found : holder rs bank location ≡ At r
+  pub found : holder rs bank location ≡ Ok r
   pub took : taken rs store g r location ≡ true
 
 -- and it is the last byte of r
@@ -154,13 +153,13 @@ pub record ShowsFirst (store : List ℕ) (r : Record) (a : Shown) : Type 0 where
 
 abbrev pub ReadFirst : Type 0
 ReadFirst =
-    (rs : List Record) (store : List ℕ) (l : Latch) (bank location : ℕ) (r : Record) → holder rs bank location ≡ At r
+    (rs : List Record) (store : List ℕ) (l : Latch) (bank location : ℕ) (r : Record) → holder rs bank location ≡ Ok r
     → location ≡ r.first → ShowsFirst store r (read_byte rs store l bank location)
 
 -- a later byte of the latched value is answered from the latch, whatever the store holds by then, and the latch stays
 abbrev pub ReadLatched : Type 0
 ReadLatched =
-    (rs : List Record) (store : List ℕ) (l : Latch) (bank location : ℕ) (r : Record) → holder rs bank location ≡ At r
+    (rs : List Record) (store : List ℕ) (l : Latch) (bank location : ℕ) (r : Record) → holder rs bank location ≡ Ok r
     → r.first < location → LatchOf l r
     → read_byte rs store l bank location ≡ shown l (get_or l.bytes (location - r.first) 0)
 
@@ -168,15 +167,15 @@ ReadLatched =
 -- latch stays
 abbrev pub ReadOther : Type 0
 ReadOther =
-    (rs : List Record) (store : List ℕ) (l : Latch) (bank location : ℕ) (r : Record) → holder rs bank location ≡ At r
+    (rs : List Record) (store : List ℕ) (l : Latch) (bank location : ℕ) (r : Record) → holder rs bank location ≡ Ok r
     → r.first < location → (LatchOf l r → ⊥)
     → read_byte rs store l bank location ≡ shown l (get_or (value_of r store) (location - r.first) 0)
 
 -- no answer if the location is unmapped, and the latch stays
 abbrev pub ReadNone : Type 0
 ReadNone =
-    (rs : List Record) (store : List ℕ) (l : Latch) (bank location : ℕ) (w : Why) → holder rs bank location ≡ Missing w
-    → read_byte rs store l bank location ≡ record { latch = l; answered = false; answer = 0 }
+    (rs : List Record) (store : List ℕ) (l : Latch) (bank location : ℕ) (w : Why) → holder rs bank location ≡ Err w
+    → read_byte rs store l bank location ≡ record { latch = l; answer = None }
 
 abbrev pub NoneLatchedHolds : Type 0
 NoneLatchedHolds = (rs : List Record) → latch_holds rs none_latched ≡ true

@@ -1,13 +1,12 @@
 -- An executed write: the byte that is taken, the bytes that are staged, the whole value in the store.
 -- Paper 01, "Commands obeyed".
 -- Assumes nothing.
-use Rattle.std.specs.Prelude.{ℕ, ◌+◌, ◌-◌, Bool, true, false, ◌&&◌, ◌||◌, List, leb, eqb, take, set, replicate, if◌then◌else◌}
+use Rattle.std.specs.Prelude.{ℕ, ◌+◌, ◌-◌, Bool, true, false, ◌&&◌, ◌||◌, List, leb, eqb, take, set, replicate, if◌then◌else◌, Result, Ok, Err}
 use Rattle.laws.specs.Outcome.{Outcome, leaves}
 use Rattle.records.specs.Map.{writable}
 use Rattle.records.specs.Lookup.{holder}
 use Rattle.records.specs.declared.record.Record.{Record}
-use Rattle.records.specs.declared.holder.Found.{Found}
-use Rattle.records.specs.declared.holder.Found.TheVariants.{At, Missing}
+use Rattle.records.specs.declared.holder.Why.{Why}
 use Rattle.banks.specs.Values.{put_value, lock_byte}
 use Rattle.memory.specs.declared.staged.Staged.{Staged}
 use Rattle.memory.specs.declared.staged.Wrote.{Wrote}
@@ -57,9 +56,9 @@ unfoldable pub write_found : List Record → List ℕ → Staged → Record → 
 write_found rs store g r location byte =
     if taken rs store g r location then take_byte store g r (location - r.first) byte else dropped store
 
-unfoldable pub write_at : List Record → List ℕ → Staged → ℕ → ℕ → Found → Outcome Wrote
-write_at rs store g location byte (At r) = write_found rs store g r location byte
-write_at rs store g location byte (Missing w) = dropped store
+unfoldable pub write_at : List Record → List ℕ → Staged → ℕ → ℕ → Result Record Why → Outcome Wrote
+write_at rs store g location byte (Ok r) = write_found rs store g r location byte
+write_at rs store g location byte (Err w) = dropped store
 
 -- an executed write of the byte at the bank and location
 unfoldable pub write_byte : List Record → List ℕ → Staged → ℕ → ℕ → ℕ → Outcome Wrote

@@ -5,10 +5,10 @@ ghost use Rattle.banks.specs.Rules.{placed};
 ghost use Rattle.banks.specs.Values.{put_value};
 ghost use Rattle.memory.specs.Filled.{selects, chosen, fresh, Picked, filled_of};
 
-use banks::{is_lock, lock_byte, put_value};
-use records::{Record, is_writable, places_end, record_at, records};
+use banks::{Stored, is_lock, put_value};
+use records::{Record, record_at, record_count};
 
-#[derive(Clone, Copy)]
+#[derive(Clone, Copy, PartialEq, Eq)]
 pub enum Filling {
     PowerOn,
     Reset(u8),
@@ -22,19 +22,15 @@ fn selects_bank(dtr0: u8, bank: u8) -> bool
     if dtr0 == 0 { 1 <= bank } else { bank == dtr0 }
 }
 
-// Internal: the value is one that takes its fresh bytes.
+// The value is one that takes its fresh bytes.
 #[tactic(auto, unfolding(crate::specs::Filled::chosen))]
-fn is_chosen(map: &[u8], store: &[u8], filling: Filling, r: Record) -> bool
-    requires { placed map.now (length store.now) ≡ true }
-    ensures { result ≡ chosen (records_of map.now) store.now filling r }
+fn is_chosen(stored: Stored<'_>, filling: Filling, r: Record) -> bool
+    ensures { result ≡ chosen (records_of stored.entry.map.now) stored.entry.store.now filling r }
 {
     match filling {
         Filling::PowerOn => r.kind == 2,
         Filling::Reset(dtr0) => {
-            let writes = is_writable(r);
-            let selected = selects_bank(dtr0, r.bank);
-            let lock = lock_byte(map, store, r.bank);
-            writes & (selected & (lock == 0x55))
+            r.is_writable() && selects_bank(dtr0, r.bank) && stored.lock_byte(r.bank) == 0x55
         }
     }
 }
@@ -50,41 +46,37 @@ fn freshen(store: &mut [u8], image: &[u8], r: Record)
         store[at] = 0xFF;
         return;
     }
-    let end = places_end(r);
+    let end = r.places_end();
     put_value(store, r, &image[at..end]);
 }
 
-// Internal: which records are chosen, by their numbers.
-#[tactic(auto, using(crate::proofs::Fillings::few, crate::proofs::Fillings::pick_more))]
-fn choices(map: &[u8], store: &[u8], filling: Filling) -> [bool; 64]
-    requires { placed map.now (length store.now) ≡ true }
-    ensures { Picked map.now store.now filling result }
+// Which records are chosen, by their numbers.
+// Kept: a rule of the project (no heap): 64 places. And by number: tried `picks.iter_mut().zip(..)`, the proof didn't close, since inside
+// the loop nothing is known of what is lent.
+#[tactic(auto, using(crate::proofs::Fillings::few))]
+fn choices(stored: Stored<'_>, filling: Filling) -> [bool; 64]
+    ensures { Picked stored.entry.map.now stored.entry.store.now filling result }
 {
     let mut picks = [false; 64];
-    let n = records(map);
-    let mut i = 0;
-    while i < n {
-        let r = record_at(map, i);
-        picks[i] = is_chosen(map, store, filling, r);
-        i += 1;
+    for i in 0..record_count(stored.map) {
+        picks[i] = is_chosen(stored, filling, record_at(stored.map, i));
     }
     picks
 }
 
 // Internal: each value that is chosen takes its fresh bytes. Map, store and image have passed 7 to 10.
-#[tactic(auto, using(crate::proofs::Fillings::few, crate::proofs::Fillings::done_none, crate::proofs::Fillings::done_all, crate::proofs::Fillings::fits, crate::proofs::Fillings::done_put, crate::proofs::Fillings::done_passed))]
+// Kept: map and store apart, for the reason at `write_byte`; by number: the new form is no plainer, since it goes from the last record
+// down, as the definition does (docs/DECISIONS.md, 16), and the iterator goes forwards only.
+#[tactic(auto, using(crate::proofs::Fillings::few))]
 pub fn fill_store(map: &[u8], store: &mut [u8], image: &[u8], filling: Filling)
     requires { (placed map.now (length store.old) ≡ true) × (length image.now ≡ length store.old) }
     ensures { store.new
         ≡ filled_of (records_of map.now) store.old image.now filling }
 {
-    let picks = choices(map, store, filling);
-    let mut i = records(map);
-    while 0 < i {
-        i -= 1;
+    let picks = choices(Stored { map, store }, filling);
+    for i in (0..record_count(map)).rev() {
         if picks[i] {
-            let r = record_at(map, i);
-            freshen(store, image, r);
+            freshen(store, image, record_at(map, i));
         }
     }
 }

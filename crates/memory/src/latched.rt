@@ -1,15 +1,15 @@
 // READ in a mapped bank, and the latch.
-ghost use Rattle.std.specs.Prelude.{◌≡◌, true, ◌-◌, ◌<◌, ◌≤◌, length};
+ghost use Rattle.std.specs.Prelude.{◌≡◌, ◌-◌, ◌<◌, ◌≤◌, length};
 ghost use Rattle.records.specs.Map.{records_of};
-ghost use Rattle.banks.specs.Rules.{placed};
 ghost use Rattle.banks.specs.Values.{value_of};
 ghost use Rattle.memory.specs.Reach.{Reaches};
 ghost use Rattle.memory.specs.Latched.{none_latched, latches, latch_from, shown, show_byte, read_byte};
 
-use banks::padded_part;
-use records::{Found, Record, lookup, places_end};
+use banks::{Stored, padded_part};
+use records::Record;
 
-#[derive(Clone, Copy)]
+// Kept: what may not change: rule 12 of paper 01 (`latch_holds`) says that what is not in use is zero, and so do C's 96 bytes.
+#[derive(Clone, Copy, PartialEq, Eq)]
 pub struct Latch {
     pub held: bool,
     pub bank: u8,
@@ -17,11 +17,11 @@ pub struct Latch {
     pub bytes: [u8; 8],
 }
 
-#[derive(Clone, Copy)]
+// What is latched after a READ, and the byte that it answers, if it answers.
+#[derive(Clone, Copy, PartialEq, Eq)]
 pub struct Shown {
     pub latch: Latch,
-    pub answered: bool,
-    pub answer: u8,
+    pub answer: Option<u8>,
 }
 
 // Nothing is latched.
@@ -40,7 +40,7 @@ pub fn none_latched() -> Latch
 fn is_latched(l: Latch, r: Record) -> bool
     ensures { result ≡ latches l r }
 {
-    l.held & (l.bank == r.bank) & (l.first == r.first)
+    l.held && l.bank == r.bank && l.first == r.first
 }
 
 // Internal: the latch after the first or single byte of the value was read, whose part of the store this is.
@@ -52,22 +52,20 @@ fn latch_from(part: &[u8], r: Record) -> Latch
     if r.width < 2 {
         return none_latched();
     }
-    let bytes = padded_part(part);
     Latch {
         held: true,
         bank: r.bank,
         first: r.first,
-        bytes: bytes,
+        bytes: padded_part(part),
     }
 }
 
-fn shown_as(l: Latch, byte: u8) -> Shown
-    ensures { result ≡ shown l byte }
+fn shown_as(latch: Latch, byte: u8) -> Shown
+    ensures { result ≡ shown latch byte }
 {
     Shown {
-        latch: l,
-        answered: true,
-        answer: byte,
+        latch,
+        answer: Some(byte),
     }
 }
 
@@ -78,8 +76,7 @@ fn show_byte(part: &[u8], l: Latch, r: Record, k: usize) -> Shown
     ensures { result ≡ show_byte l r part.now k }
 {
     if k == 0 {
-        let latch = latch_from(part, r);
-        return shown_as(latch, part[0]);
+        return shown_as(latch_from(part, r), part[0]);
     }
     if is_latched(l, r) {
         return shown_as(l, l.bytes[k]);
@@ -94,24 +91,21 @@ fn show_value(store: &[u8], l: Latch, r: Record, location: u8) -> Shown
     ensures { result ≡ show_byte l r (value_of r store.now) (location - r.first) }
 {
     let at = r.offset as usize;
-    let end = places_end(r);
-    let first = r.first;
-    let k = location - first;
+    let end = r.places_end();
+    let k = location - r.first;
     show_byte(&store[at..end], l, r, k as usize)
 }
 
-// Internal: READ at a location of a mapped bank.
-#[tactic(auto, using(banks::proofs::Places::placed_ordered, crate::proofs::Reaching::reaches), unfolding(crate::specs::Latched::read_byte, crate::specs::Latched::read_at))]
-pub fn read_byte(map: &[u8], store: &[u8], latch: Latch, bank: u8, location: u8) -> Shown
-    requires { placed map.now (length store.now) ≡ true }
-    ensures { result ≡ read_byte (records_of map.now) store.now latch bank location }
+// READ at a location of a mapped bank.
+#[tactic(auto, using(crate::proofs::Reaching::reaches), unfolding(crate::specs::Latched::read_byte, crate::specs::Latched::read_at))]
+pub fn read_byte(stored: Stored<'_>, latch: Latch, bank: u8, location: u8) -> Shown
+    ensures { result ≡ read_byte (records_of stored.entry.map.now) stored.entry.store.now latch bank location }
 {
-    match lookup(map, bank, location) {
-        Found::At(r) => show_value(store, latch, r, location),
-        Found::Missing(_) => Shown {
-            latch: latch,
-            answered: false,
-            answer: 0,
+    match stored.map().lookup(bank, location) {
+        Ok(r) => show_value(stored.store, latch, r, location),
+        Err(_) => Shown {
+            latch,
+            answer: None,
         },
     }
 }

@@ -7,10 +7,12 @@ ghost use Rattle.memory.specs.Reach.{Reaches};
 ghost use Rattle.memory.specs.Staged.{none_staged, is_next, unlocked, taken, bytes_with, wrote, take_byte};
 ghost use Rattle.memory.specs.Staged.{write_found, write_byte};
 
-use banks::{lock_byte, put_value};
-use records::{Found, Record, is_writable, lookup};
+use banks::{Stored, put_value};
+use records::{Map, Record};
 
-#[derive(Clone, Copy)]
+// Some bytes of a value; none, where the count is 0.
+// Kept: what may not change: rule 12 of paper 01 (`staged_holds`) says that what is not in use is zero, and so do C's 96 bytes.
+#[derive(Clone, Copy, PartialEq, Eq)]
 pub struct Staged {
     pub count: u8,
     pub bank: u8,
@@ -18,7 +20,9 @@ pub struct Staged {
     pub bytes: [u8; 8],
 }
 
-#[derive(Clone, Copy)]
+// Whether the byte is taken, and what is staged then, be it taken or not.
+// Kept: the flag does not say whether `staged` is there; what may not change: `memory:wrote` names both.
+#[derive(Clone, Copy, PartialEq, Eq)]
 pub struct Wrote {
     pub taken: bool,
     pub staged: Staged,
@@ -41,30 +45,23 @@ fn is_next(g: Staged, r: Record, location: u8) -> bool
     ensures { result ≡ is_next g r location }
 {
     let at = r.first as usize + g.count as usize;
-    let same = (1 <= g.count) & (g.bank == r.bank) & (g.first == r.first);
-    same & (location as usize == at)
+    1 <= g.count && g.bank == r.bank && g.first == r.first && location as usize == at
 }
 
-// Internal: the bank's lock byte is 0x55 where the value is lockable.
+// The bank's lock byte is 0x55 where the value is lockable.
 #[tactic(auto, unfolding(crate::specs::Staged::unlocked))]
-pub fn is_unlocked(map: &[u8], store: &[u8], r: Record) -> bool
-    requires { placed map.now (length store.now) ≡ true }
-    ensures { result ≡ unlocked (records_of map.now) store.now r }
+pub fn is_unlocked(stored: Stored<'_>, r: Record) -> bool
+    ensures { result ≡ unlocked (records_of stored.entry.map.now) stored.entry.store.now r }
 {
-    let lock = lock_byte(map, store, r.bank);
-    (r.lockable == 0) | (lock == 0x55)
+    r.lockable == 0 || stored.lock_byte(r.bank) == 0x55
 }
 
-// Internal: the byte is taken.
+// The byte is taken.
 #[tactic(auto, unfolding(crate::specs::Staged::taken))]
-fn is_taken(map: &[u8], store: &[u8], g: Staged, r: Record, location: u8) -> bool
-    requires { placed map.now (length store.now) ≡ true }
-    ensures { result ≡ taken (records_of map.now) store.now g r location }
+fn is_taken(stored: Stored<'_>, g: Staged, r: Record, location: u8) -> bool
+    ensures { result ≡ taken (records_of stored.entry.map.now) stored.entry.store.now g r location }
 {
-    let writes = is_writable(r);
-    let opens = is_unlocked(map, store, r);
-    let next = is_next(g, r, location);
-    writes & opens & ((location == r.first) | next)
+    r.is_writable() && is_unlocked(stored, r) && (location == r.first || is_next(g, r, location))
 }
 
 // Internal: the staged bytes, with byte number k.
@@ -73,22 +70,28 @@ fn bytes_with(g: Staged, k: usize, byte: u8) -> [u8; 8]
     requires { k < 8 }
     ensures { result ≡ bytes_with g k byte }
 {
-    if k == 0 {
-        let mut begun = [0u8; 8];
-        begun[0] = byte;
-        return begun;
-    }
-    let mut bytes = g.bytes;
+    let mut bytes = if k == 0 { [0; 8] } else { g.bytes };
     bytes[k] = byte;
     bytes
 }
 
-fn wrote_as(taken: bool, g: Staged) -> Wrote
-    ensures { result ≡ wrote taken g }
+// The byte is taken, and this is staged then.
+fn taken_with(staged: Staged) -> Wrote
+    ensures { result ≡ wrote true staged }
 {
     Wrote {
-        taken: taken,
-        staged: g,
+        taken: true,
+        staged,
+    }
+}
+
+// Nothing is taken, and nothing stays staged.
+fn dropped() -> Wrote
+    ensures { result ≡ wrote false none_staged }
+{
+    Wrote {
+        taken: false,
+        staged: none_staged(),
     }
 }
 
@@ -101,33 +104,32 @@ fn take_byte(store: &mut [u8], g: Staged, r: Record, k: u8, byte: u8) -> Wrote
     let bytes = bytes_with(g, k as usize, byte);
     if k + 1 == r.width {
         put_value(store, r, &bytes);
-        return wrote_as(true, none_staged());
+        return taken_with(none_staged());
     }
-    let more = Staged {
+    taken_with(Staged {
         count: k + 1,
         bank: r.bank,
         first: r.first,
-        bytes: bytes,
-    };
-    wrote_as(true, more)
+        bytes,
+    })
 }
 
 // Internal: an executed write at a location of the value.
+// Kept: map and store apart, for the reason at `write_byte`.
 #[tactic(auto, unfolding(crate::specs::Staged::write_found))]
 fn write_found(map: &[u8], store: &mut [u8], g: Staged, r: Record, location: u8, byte: u8) -> Wrote
     requires { (placed map.now (length store.old) ≡ true) × Reaches (length store.old) location r }
     ensures { Gives result store.new (write_found (records_of map.now) store.old g r location byte) }
 {
-    if is_taken(map, store, g, r, location) {
-        let first = r.first;
-        let k = location - first;
-        return take_byte(store, g, r, k, byte);
+    if is_taken(Stored { map, store }, g, r, location) {
+        take_byte(store, g, r, location - r.first, byte)
+    } else {
+        dropped()
     }
-    let none = none_staged();
-    wrote_as(false, none)
 }
 
 // Internal: an executed write of the byte at the bank and location.
+// Kept: a type that holds the lent store: tried, the proof didn't close (what its maker's store became is lost).
 #[tactic(auto, using(banks::proofs::Places::placed_ordered, crate::proofs::Reaching::reaches), unfolding(crate::specs::Staged::write_byte, crate::specs::Staged::write_at))]
 pub fn write_byte(
     map: &[u8],
@@ -141,8 +143,8 @@ pub fn write_byte(
     ensures { Gives result store.new
         (write_byte (records_of map.now) store.old staged bank location byte) }
 {
-    match lookup(map, bank, location) {
-        Found::At(r) => write_found(map, store, staged, r, location, byte),
-        Found::Missing(_) => wrote_as(false, none_staged()),
+    match (Map { bytes: map }).lookup(bank, location) {
+        Ok(r) => write_found(map, store, staged, r, location, byte),
+        Err(_) => dropped(),
     }
 }

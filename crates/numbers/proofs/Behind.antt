@@ -7,6 +7,8 @@ use native.Mathlib.Omega.{arith}
 use borrow.Author.Tests.{lt-ltb}
 use Rattle.std.specs.Prelude.{if◌then◌else◌}
 use Rattle.laws.specs.Numbers.{first_failing}
+use Rattle.refusals.specs.Numbers.{number_of, refusal_of}
+use Rattle.refusals.proofs.Among.{number_among}
 use Rattle.records.specs.Map.{records_of}
 use Rattle.banks.specs.Rules.{check_number}
 use Rattle.banks.specs.Facts.{Stands}
@@ -15,7 +17,8 @@ use Rattle.hearing.specs.declared.heard.Heard.{Heard}
 use Rattle.hearing.specs.declared.heard.Who.{Who}
 use Rattle.rooms.specs.Rules.{address_holds, state_holds}
 use Rattle.rooms.specs.declared.state.State.{State}
-use Rattle.numbers.specs.Numbers.{power_number, heard_number, step_number, start_number}
+use Rattle.numbers.specs.Numbers.{start_tests, start_number, power_tests, power_number, heard_tests, heard_number}
+use Rattle.numbers.specs.Numbers.{step_tests, step_number}
 use Rattle.numbers.proofs.Numbers.{tests_in_order}
 
 -- a number that is not 0 is that of the call, if the tests before it come first
@@ -73,6 +76,24 @@ module _ (map store : List ℕ) (size : ℕ) where
 
   pub stepped : (s : State) (heard : Heard) → step_number map store size s heard ≡ 0 → Stands map store size
   stepped s heard e = powered s (step_passed s heard e).0
+
+-- each of these numbers is a refusal's, where it is not 0
+module _ (map store : List ℕ) (size n : ℕ) (some : n ≡ 0 → ⊥) where
+  pub start_refuses : (who : Who) → start_number map store size who ≡ n → number_of (refusal_of n) ≡ n
+  unfolding start_number
+  start_refuses who e = number_among (start_tests map store size who) refl n e some
+
+  pub power_refuses : (s : State) → power_number map store size s ≡ n → number_of (refusal_of n) ≡ n
+  unfolding power_number
+  power_refuses s e = number_among (power_tests map store size s) refl n e some
+
+  pub heard_refuses : (s : State) (heard : Heard) → heard_number map store s heard ≡ n → number_of (refusal_of n) ≡ n
+  unfolding heard_number
+  heard_refuses s heard e = number_among (heard_tests map store s heard) refl n e some
+
+  pub step_refuses : (s : State) (heard : Heard) → step_number map store size s heard ≡ n → number_of (refusal_of n) ≡ n
+  unfolding step_number
+  step_refuses s heard e = number_among (step_tests map store size s heard) refl n e some
 
 -- a number below 16,777,216 is a frame
 pub frame_passes : (map store : List ℕ) (s : State) (heard : Heard) → heard.frame < 16777216

@@ -14,25 +14,25 @@ use Rattle.rooms.specs.declared.state.State.{State}
 use Rattle.numbers.specs.Numbers.{start_tests, start_number, power_tests, power_number, heard_number, step_tests}
 use Rattle.numbers.specs.Numbers.{step_number}
 
--- what each call promises of its result r
-abbrev pub StartNumberPromise : List ℕ → List ℕ → List ℕ → Who → ℕ → Type 0
-StartNumberPromise map store image who r = r ≡ start_number map store (length image) who
+-- what each call promises of the number r in its result
+abbrev pub CheckStartPromise : List ℕ → List ℕ → List ℕ → Who → ℕ → Type 0
+CheckStartPromise map store image who r = r ≡ start_number map store (length image) who
 
-abbrev pub PowerNumberPromise : List ℕ → List ℕ → List ℕ → State → ℕ → Type 0
-PowerNumberPromise map store image s r = r ≡ power_number map store (length image) s
+abbrev pub CheckPowerPromise : List ℕ → List ℕ → List ℕ → State → ℕ → Type 0
+CheckPowerPromise map store image s r = r ≡ power_number map store (length image) s
 
-abbrev pub HeardNumberPromise : List ℕ → List ℕ → State → Heard → ℕ → Type 0
-HeardNumberPromise map store s heard r = r ≡ heard_number map store s heard
+abbrev pub CheckHeardPromise : List ℕ → List ℕ → State → Heard → ℕ → Type 0
+CheckHeardPromise map store s heard r = r ≡ heard_number map store s heard
 
-abbrev pub StepNumberPromise : List ℕ → List ℕ → List ℕ → State → Heard → ℕ → Type 0
-StepNumberPromise map store image s heard r = r ≡ step_number map store (length image) s heard
+abbrev pub CheckStepPromise : List ℕ → List ℕ → List ℕ → State → Heard → ℕ → Type 0
+CheckStepPromise map store image s heard r = r ≡ step_number map store (length image) s heard
 
 -- results meeting the same promise are equal
 pub record Settled (map store image : List ℕ) : Type 0 where
-  pub start_number_lem : (who : Who) → Settles (StartNumberPromise map store image who)
-  pub power_number_lem : (s : State) → Settles (PowerNumberPromise map store image s)
-  pub heard_number_lem : (s : State) (heard : Heard) → Settles (HeardNumberPromise map store s heard)
-  pub step_number_lem : (s : State) (heard : Heard) → Settles (StepNumberPromise map store image s heard)
+  pub start_number_lem : (who : Who) → Settles (CheckStartPromise map store image who)
+  pub power_number_lem : (s : State) → Settles (CheckPowerPromise map store image s)
+  pub heard_number_lem : (s : State) (heard : Heard) → Settles (CheckHeardPromise map store s heard)
+  pub step_number_lem : (s : State) (heard : Heard) → Settles (CheckStepPromise map store image s heard)
 
 -- a number is given exactly if every test before its own passes and its own fails; 0 exactly if all pass
 pub record GivenBy (number : ℕ) (tests : List Test) : Type 0 where

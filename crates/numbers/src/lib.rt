@@ -1,6 +1,6 @@
-// Which number a start, a power-on and a frame step get: 0, or that of the first test that fails.
+// What a start, a power-on and a frame step refuse: nothing, or the first test that fails.
 #![tactic(auto)]
 
-mod given; // the numbers
+mod given; // the tests of each call, in order
 
-pub use given::{heard_number, power_number, start_number, step_number};
+pub use given::{check_heard, check_power, check_start, check_step};

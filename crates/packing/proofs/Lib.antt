@@ -1,5 +1,4 @@
 pub mod Spelled
-pub mod Copied
 pub mod Packed
 pub mod Round
 pub mod Settled

@@ -1,19 +1,23 @@
--- A list spelled out: its parts as items by number, a test of all items from one on, and bytes put at numbered places.
+-- A list spelled out: its parts as items by number, a number and its four bytes, and a part that is put.
 -- Assumes nothing.
-use Prim.Native.Nat.{ℕ, zero, suc, ◌+◌, ◌≤◌, ◌<◌}
+use Prim.Native.Nat.{ℕ, zero, suc, ◌+◌, ◌≤◌}
 use mathlib.Core.Path.{◌≡◌, refl, sym, ap, ◌∙◌}
-use mathlib.Core.Bool.{Bool, true, false}
-use mathlib.Core.List.{List, [], ◌∷◌}
+use mathlib.Core.Bool.{true}
+use mathlib.Core.List.{List, [], ◌∷◌, append_assoc}
 use native.Mathlib.Omega.{arith}
-use native.Mathlib.Nat.{add-zero, add-suc}
-use native.Mathlib.Numerals.{add-one}
+use native.Mathlib.Nat.{div-one}
 use lib.Dec.{eqb}
-use lib.ListN.{length, drop, get_or, set, replicate, drop_of_length-le}
-use lib.Seq.{sets, drop-cons, take_all}
+use lib.ListN.{length, take, drop, get_or, replicate}
+use lib.Seq.{sets-eq, drop-cons, drop-drop, take_all}
+use borrow.Rule.Slice.PartMut.{put_mid}
 use borrow.Author.Tests.{eqb-true}
+use Rattle.std.specs.Int.{w32, from_be_bytes, to_be_bytes}
+use Rattle.laws.specs.Bits.{bits}
 use Rattle.laws.specs.Lists.{items, every}
 use Rattle.laws.specs.Parts.{part, put}
 use Rattle.laws.proofs.Tests.{both}
+use Rattle.entries.specs.Entry.{four_bytes}
+use Rattle.packing.specs.StateBytes.{four_of, four_at}
 
 -- item number i of a list of numbers
 abbrev pub at : List ℕ → ℕ → ℕ
@@ -38,27 +42,26 @@ zeros_are (x ∷ s) e =
     let p = both (eqb x 0) (every (λ x. eqb x 0) s) e in
     rw (eqb-true x 0 p.0) (ap (λ (r : List ℕ). 0 ∷ r) (zeros_are s p.1))
 
--- a test of all items from number i on, as a loop that counts up meets it
-module _ (f : ℕ → Bool) (s : List ℕ) (i : ℕ) where
-  pub from_fails : i < length s → f (at s i) ≡ false → every f (drop i s) ≡ false
-  from_fails h e = rw (drop-cons s i 0 h, e)
+-- four bytes of a part, high first, as a number
+pub four_part : (b : List ℕ) (i : ℕ) → i + 4 ≤ length b → from_be_bytes w32 (part i 4 b) ≡ four_at b i
+unfolding four_at
+four_part b i h =
+    let one : i + 1 ≡ suc i = omega arith in
+    let two : i + 2 ≡ suc (suc i) = omega arith in
+    let three : i + 3 ≡ suc (suc (suc i)) = omega arith in
+    rw (part_items 4 i b h, one, two, three) (sum (at b i) (at b (suc i)) (at b (suc (suc i))) (at b (suc (suc (suc i)))))
+  where
+    sum : (x y z t : ℕ) → from_be_bytes w32 (x ∷ y ∷ z ∷ t ∷ []) ≡ four_bytes x y z t
+    sum x y z t = omega arith
 
-  pub from_goes_on : i < length s → f (at s i) ≡ true → every f (drop i s) ≡ every f (drop (i + 1) s)
-  from_goes_on h e = rw (add-one, drop-cons s i 0 h, e)
+-- a number's four bytes
+pub four_is : (n : ℕ) → to_be_bytes w32 n ≡ four_of n
+unfolding four_of bits
+four_is n = rw (div-one n)
 
-  pub from_ends : length s ≤ i → every f (drop i s) ≡ true
-  from_ends h = rw (drop_of_length-le s {i = i} h)
-
--- bytes put one after the other, from place i on, counted from there
-abbrev pub placed : List ℕ → ℕ → ℕ → List ℕ → List ℕ
-placed s i j [] = s
-placed s i j (x ∷ xs) = placed (set s (i + j) x) i (suc j) xs
-
-placed_from : (xs s : List ℕ) (i j : ℕ) → sets s (i + j) xs ≡ placed s i j xs
-placed_from [] s i j = refl
-placed_from (x ∷ xs) s i j =
-    ap (λ (k : ℕ). sets (set s (i + j) x) k xs) (sym (add-suc i j)) ∙ placed_from xs (set s (i + j) x) i (suc j)
-
-pub put_from : (i : ℕ) (xs s : List ℕ) → put i xs s ≡ placed s i 0 xs
+-- a part that was lent comes back with other bytes: they are put there
+pub put_back : (i k : ℕ) (bs ys s : List ℕ) → k ≡ length bs → ys ≡ bs → i + length bs ≤ length s → put_mid i k s ys ≡ put i bs s
 unfolding put
-put_from i xs s = ap (λ (k : ℕ). sets s k xs) (sym (add-zero i)) ∙ placed_from xs s i 0
+put_back i k bs ys s e y h =
+    rw (y, e, drop-drop (length bs) i s)
+    (sym (sets-eq bs s i h ∙ append_assoc (take i s) bs (drop (i + length bs) s)))

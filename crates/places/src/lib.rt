@@ -4,5 +4,5 @@
 mod placed; // a sentence for each answer
 mod examined; // and for its count
 
-pub use examined::say_examined;
-pub use placed::{say_found, say_location, say_width};
+pub use examined::Examined;
+pub use placed::{Standing, Width};

@@ -1,60 +1,93 @@
 // What stands at a location, as a sentence.
-ghost use Rattle.std.specs.Prelude.{◌≤◌};
+ghost use Rattle.std.specs.Prelude.{Some, ◌++◌, codes, decimal};
+ghost use Rattle.places.specs.Words.{width_text, held_text, why_text, found_text};
 
-use records::{Found, Record, Why};
-use text::Line;
+use records::{Record, Why};
+use std::fmt;
+use text::Hex;
 
-// A location as a person writes it.
-pub fn say_location(line: Line, words: &[u8], location: u8) -> Line
-    ensures { line.length ≤ result.length }
-{
-    line.add(words).add(b"0x").hex(location)
-}
+// A width in words.
+#[derive(Clone, Copy)]
+pub struct Width(pub u8);
 
-pub fn say_width(line: Line, width: u8) -> Line
-    ensures { line.length ≤ result.length }
-{
-    let said = line.decimal(width as u32);
-    if width == 1 {
-        return said.add(b" byte");
-    }
-    said.add(b" bytes")
-}
+impl fmt::Display for Width {
+    ghost output = { λ width. Some (width_text width.0) };
 
-fn say_held(line: Line, location: u8, r: Record) -> Line
-    ensures { line.length ≤ result.length }
-{
-    let place = say_location(line, b", location ", location);
-    if r.first == location {
-        return say_width(place.add(b": a value begins there, "), r.width);
-    }
-    let inside = say_location(place, b": inside the value at ", r.first);
-    say_width(inside.add(b", "), r.width)
-}
-
-fn say_why(line: Line, location: u8, why: Why) -> Line
-    ensures { line.length ≤ result.length }
-{
-    match why {
-        Why::Absent => line.add(b" is absent: no value lies in it"),
-        Why::Hole(next) => {
-            let hole = say_location(line, b" has a hole at ", location);
-            say_location(hole, b"; the next mapped location is ", next)
-        }
-        Why::Past => {
-            let past = say_location(line, b" has nothing at ", location);
-            past.add(b": that is past its last mapped location")
+    fn fmt<W: fmt::Write>(&self, f: &mut fmt::Formatter<W>) -> fmt::Result {
+        match self.0 {
+            1 => f.write_str("1 byte"),
+            width => write!(f, "{width} bytes"),
         }
     }
 }
 
-// What stands at a bank and location.
-pub fn say_found(line: Line, bank: u8, location: u8, found: Found) -> Line
-    ensures { line.length ≤ result.length }
-{
-    let named = line.add(b"bank ").decimal(bank as u32);
-    match found {
-        Found::At(r) => say_held(named, location, r),
-        Found::Missing(why) => say_why(named, location, why),
+// A bank and location, and what was found there.
+#[derive(Clone, Copy)]
+pub struct Standing {
+    pub bank: u8,
+    pub location: u8,
+    pub found: Result<Record, Why>,
+}
+
+impl fmt::Display for Standing {
+    ghost output = { λ s. Some (codes "bank " ++ decimal s.bank ++ found_text s.location s.found) };
+
+    fn fmt<W: fmt::Write>(&self, f: &mut fmt::Formatter<W>) -> fmt::Result {
+        let Standing {
+            bank,
+            location,
+            found,
+        } = *self;
+        write!(f, "bank {bank}")?;
+        match found {
+            Ok(r) => f.write(Held(location, r)),
+            Err(why) => f.write(Reason(location, why)),
+        }
+    }
+}
+
+#[derive(Drop)]
+struct Held(u8, Record);
+
+impl fmt::Display for Held {
+    ghost output = { λ held. Some (held_text held.0 held.1) };
+
+    fn fmt<W: fmt::Write>(&self, f: &mut fmt::Formatter<W>) -> fmt::Result {
+        let Held(location, r) = *self;
+        let here = Hex(location);
+        let first = Hex(r.first);
+        let width = Width(r.width);
+        if r.first == location {
+            return write!(f, ", location 0x{here}: a value begins there, {width}");
+        }
+        write!(
+            f,
+            ", location 0x{here}: inside the value at 0x{first}, {width}"
+        )
+    }
+}
+
+#[derive(Drop)]
+struct Reason(u8, Why);
+
+impl fmt::Display for Reason {
+    ghost output = { λ reason. Some (why_text reason.0 reason.1) };
+
+    fn fmt<W: fmt::Write>(&self, f: &mut fmt::Formatter<W>) -> fmt::Result {
+        let here = Hex(self.0);
+        match self.1 {
+            Why::Absent => f.write_str(" is absent: no value lies in it"),
+            Why::Hole(next) => {
+                let next = Hex(next);
+                write!(
+                    f,
+                    " has a hole at 0x{here}; the next mapped location is 0x{next}"
+                )
+            }
+            Why::Past => write!(
+                f,
+                " has nothing at 0x{here}: that is past its last mapped location"
+            ),
+        }
     }
 }

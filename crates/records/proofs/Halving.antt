@@ -21,8 +21,7 @@ use Rattle.records.specs.Facts.{Member, Before, Holds}
 use Rattle.records.specs.Halving.{Wanted, at_location, in_bank, middle, visits, visits_of, visited, halved, halved_bank}
 use Rattle.records.specs.Promises.{HalvingFinds, HalvingMaps}
 use Rattle.records.specs.declared.record.Record.{Record}
-use Rattle.records.specs.declared.holder.Found.{Found}
-use Rattle.records.specs.declared.holder.Found.TheVariants.{At, Missing}
+use Rattle.std.specs.Prelude.{Result, Ok, Err}
 use Rattle.records.specs.declared.holder.Why.{Why}
 use Rattle.records.proofs.Walk.{member}
 use Rattle.records.proofs.Members.{rises, members_rise}
@@ -296,7 +295,7 @@ halving_finds map o bank location = go (holder seen bank location) refl
     seen : List Record
     seen = each (record_at map) (visits_of map wanted)
 
-    none_holds : (w : Why) → holder seen bank location ≡ Missing w → (r : Record) → Member r map
+    none_holds : (w : Why) → holder seen bank location ≡ Err w → (r : Record) → Member r map
         → holds r bank location ≡ false
     none_holds w e r m =
         ⊎_elim
@@ -306,16 +305,16 @@ halving_finds map o bank location = go (holder seen bank location) refl
         (λ f. f)
         (true_or_false (holds r bank location))
 
-    go : (f : Found) → holder seen bank location ≡ f → f ≡ holder (records_of map) bank location
-    go (At r) e =
+    go : (f : Result Record Why) → holder seen bank location ≡ f → f ≡ holder (records_of map) bank location
+    go (Ok r) e =
         let x = holder_at bank location seen r e in
         sym (rising_hit bank location (records_of map) (rises map o) r (visits_members map wanted r x.0) x.1)
-    go (Missing w) e =
+    go (Err w) e =
         let none = none_holds w e in
         let reason = tells_near bank location (Among bank location seen) (Among bank location (records_of map))
         (visits_members map wanted) (visits_near map o bank location none) (why seen bank location)
         (why_tells bank location seen) in
         sym e ∙ none_holder bank location seen (holder_none bank location seen w e)
-        ∙ ap Missing (tells_one bank location (Among bank location (records_of map)) _ _ reason
+        ∙ ap Err (tells_one bank location (Among bank location (records_of map)) _ _ reason
         (why_tells bank location (records_of map)))
         ∙ sym (none_holder bank location (records_of map) none)

@@ -19,9 +19,7 @@ use Rattle.records.specs.Lookup.{holds, why, held_or, holder, if_first, beginner
 use Rattle.records.specs.Facts.{Before, Holds}
 use Rattle.records.specs.Promises.{HolderHit, HolderNone, FirstFound, MappedMember}
 use Rattle.records.specs.declared.record.Record.{Record}
-use Rattle.records.specs.declared.holder.Beginning.TheVariants.{Begins}
-use Rattle.records.specs.declared.holder.Found.{Found}
-use Rattle.records.specs.declared.holder.Found.TheVariants.{At, Missing}
+use Rattle.std.specs.Prelude.{Some, Result, Ok, Err}
 use Rattle.records.specs.declared.holder.Why.{Why}
 use Rattle.records.proofs.Members.{before_is, rising_all, rising_tail, rises, member_fields}
 
@@ -43,7 +41,7 @@ is_holding r bank location h =
 
 module _ (bank location : ℕ) where
   module _ (w : Why) where
-    held_at : (rs : List Record) (r : Record) → held_or (Missing w) rs bank location ≡ At r
+    held_at : (rs : List Record) (r : Record) → held_or (Err w) rs bank location ≡ Ok r
         → Memᴰ r rs × (holds r bank location ≡ true)
     held_at [] r e = let z : ◌≡◌ {A = ℕ} 0 1 = cc in absurd (omega arith)
     held_at (x ∷ rs) r e =
@@ -52,7 +50,7 @@ module _ (bank location : ℕ) where
         (λ q. let k = held_at rs r q.1 in (Memᴰ.tail k.0, k.1))
         (chosen (holds x bank location) e)
 
-    held_none : (v : Why) (rs : List Record) → held_or (Missing w) rs bank location ≡ Missing v
+    held_none : (v : Why) (rs : List Record) → held_or (Err w) rs bank location ≡ Err v
         → (r : Record) → Memᴰ r rs
         → holds r bank location ≡ false
     held_none v [] e r m = elim m [ ]
@@ -63,24 +61,24 @@ module _ (bank location : ℕ) where
         (chosen (holds x bank location) e)
 
     none_held : (rs : List Record) → ((r : Record) → Memᴰ r rs → holds r bank location ≡ false)
-        → held_or (Missing w) rs bank location ≡ Missing w
+        → held_or (Err w) rs bank location ≡ Err w
     none_held [] h = refl
     none_held (x ∷ rs) h = rw (h x (Memᴰ.head refl)) (none_held rs (λ r m. h r (Memᴰ.tail m)))
 
   -- what is found is a member, and holds the location
-  pub holder_at : (rs : List Record) (r : Record) → holder rs bank location ≡ At r
+  pub holder_at : (rs : List Record) (r : Record) → holder rs bank location ≡ Ok r
       → Memᴰ r rs × (holds r bank location ≡ true)
   unfolding holder
   holder_at rs r e = held_at (why rs bank location) rs r e
 
   -- it is missing exactly if no member holds the location, and then for that reason
-  pub holder_none : (rs : List Record) (w : Why) → holder rs bank location ≡ Missing w → (r : Record) → Memᴰ r rs
+  pub holder_none : (rs : List Record) (w : Why) → holder rs bank location ≡ Err w → (r : Record) → Memᴰ r rs
       → holds r bank location ≡ false
   unfolding holder
   holder_none rs w e r m = held_none (why rs bank location) w rs e r m
 
   pub none_holder : (rs : List Record) → ((r : Record) → Memᴰ r rs → holds r bank location ≡ false)
-      → holder rs bank location ≡ Missing (why rs bank location)
+      → holder rs bank location ≡ Err (why rs bank location)
   unfolding holder
   none_holder rs h = none_held (why rs bank location) rs h
 
@@ -90,22 +88,22 @@ module _ (bank location : ℕ) where
   not_both p r (inr b) h k = absurd (omega arith)
 
   -- in a rising list a member that holds the location is what is found
-  rising_held : (none : Found) (rs : List Record) → rising rs ≡ true → (r : Record) → Memᴰ r rs
-      → holds r bank location ≡ true → held_or none rs bank location ≡ At r
+  rising_held : (none : Result Record Why) (rs : List Record) → rising rs ≡ true → (r : Record) → Memᴰ r rs
+      → holds r bank location ≡ true → held_or none rs bank location ≡ Ok r
   rising_held none [] u r x3 t = elim x3 [ ]
   rising_held none (x ∷ rs) u r (Memᴰ.head p) t =
-      rw (ap (λ (y : Record). holds y bank location) (sym p) ∙ t) (ap At (sym p))
+      rw (ap (λ (y : Record). holds y bank location) (sym p) ∙ t) (ap Ok (sym p))
   rising_held none (x ∷ rs) u r (Memᴰ.tail m) t =
-      if_by (λ (f : Found). f ≡ At r) (holds x bank location)
+      if_by (λ (f : Result Record Why). f ≡ Ok r) (holds x bank location)
       (λ q.
       let first = before_is x r (every_at (before x) rs (rising_all x rs u) r m) in
       not_both x r first (holds_is x bank location q) (holds_is r bank location t))
       (λ q. rising_held none rs (rising_tail x rs u) r m t)
 
   pub rising_hit : (rs : List Record) → rising rs ≡ true → (r : Record) → Memᴰ r rs
-      → holds r bank location ≡ true → holder rs bank location ≡ At r
+      → holds r bank location ≡ true → holder rs bank location ≡ Ok r
   unfolding holder
-  rising_hit rs u r m t = rising_held (Missing (why rs bank location)) rs u r m t
+  rising_hit rs u r m t = rising_held (Err (why rs bank location)) rs u r m t
 
 pub holder_is_none : HolderNone
 holder_is_none map bank location =
@@ -123,20 +121,20 @@ mapped_member map bank = (
 )
 
 -- the value that begins at a location is the one that holds it, where it begins there
-if_first_at : (location : ℕ) (f : Found) (r : Record) → if_first location f ≡ Begins r
-    → (f ≡ At r) × (r.first ≡ location)
+if_first_at : (location : ℕ) (f : Result Record Why) (r : Record) → if_first location f ≡ Some r
+    → (f ≡ Ok r) × (r.first ≡ location)
 unfolding if_first
-if_first_at location (At x) r e =
+if_first_at location (Ok x) r e =
     ⊎_elim
     (λ q.
     let same : r ≡ x = cc in
-    (ap At (sym same), ap (λ (y : Record). y.first) same ∙ eqb-true x.first location q.0))
+    (ap Ok (sym same), ap (λ (y : Record). y.first) same ∙ eqb-true x.first location q.0))
     (λ q. let z : ◌≡◌ {A = ℕ} 0 1 = cc in absurd (omega arith))
     (chosen (eqb x.first location) e)
-if_first_at location (Missing w) r e = let z : ◌≡◌ {A = ℕ} 0 1 = cc in absurd (omega arith)
+if_first_at location (Err w) r e = let z : ◌≡◌ {A = ℕ} 0 1 = cc in absurd (omega arith)
 
-pub beginner_at : (rs : List Record) (bank location : ℕ) (r : Record) → beginner rs bank location ≡ Begins r
-    → (holder rs bank location ≡ At r) × (r.first ≡ location)
+pub beginner_at : (rs : List Record) (bank location : ℕ) (r : Record) → beginner rs bank location ≡ Some r
+    → (holder rs bank location ≡ Ok r) × (r.first ≡ location)
 unfolding beginner
 beginner_at rs bank location r e = if_first_at location (holder rs bank location) r e
 

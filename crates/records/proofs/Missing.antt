@@ -13,8 +13,7 @@ use Rattle.records.specs.Lookup.{holds, why, holder}
 use Rattle.records.specs.Facts.{Member, Holds, MappedAt, Says}
 use Rattle.records.specs.Promises.{FoundExactly, OneAnswer}
 use Rattle.records.specs.declared.record.Record.{Record}
-use Rattle.records.specs.declared.holder.Found.{Found}
-use Rattle.records.specs.declared.holder.Found.TheVariants.{At, Missing}
+use Rattle.std.specs.Prelude.{Result, Ok, Err}
 use Rattle.records.specs.declared.holder.Why.{Why}
 use Rattle.records.specs.declared.holder.Why.TheVariants.{Absent, Hole, Past}
 use Rattle.records.proofs.Members.{member_fields}
@@ -41,7 +40,7 @@ module _ (map : List ℕ) (o : ordered map ≡ true) (bank location : ℕ) where
       u (r, m, record { same_bank = h.same_bank; from = l; to = omega arith }) in
       omega arith
 
-  tells_says : (w : Why) → Unmapped → Tells bank location In w → Says map bank location (Missing w)
+  tells_says : (w : Why) → Unmapped → Tells bank location In w → Says map bank location (Err w)
   tells_says Absent u t = t
   tells_says (Hole n) u t =
       let y = t.0 in
@@ -57,12 +56,12 @@ module _ (map : List ℕ) (o : ordered map ≡ true) (bank location : ℕ) where
   tells_says Past u t =
       record { present = t.0; below = λ k x. ends_below u x.0 x.1 k x.2 (t.1 x.0 x.1 x.2.same_bank) }
 
-  says_unmapped : (w : Why) → Says map bank location (Missing w) → Unmapped
+  says_unmapped : (w : Why) → Says map bank location (Err w) → Unmapped
   says_unmapped Absent s x = s x.0 x.1 x.2.same_bank
   says_unmapped (Hole n) s x = s.unmapped x
   says_unmapped Past s x = let low = s.below location x in absurd (omega arith)
 
-  says_tells : (w : Why) → Says map bank location (Missing w) → Tells bank location In w
+  says_tells : (w : Why) → Says map bank location (Err w) → Tells bank location In w
   says_tells Absent s = s
   says_tells (Hole n) s =
       let x = s.mapped in
@@ -85,25 +84,25 @@ module _ (map : List ℕ) (o : ordered map ≡ true) (bank location : ℕ) where
       (λ t. absurd (u (r, m, holds_is r bank location t)))
       (λ t. absurd (false≢true t))
 
-  unmapped_of : (w : Why) → holder (records_of map) bank location ≡ Missing w → Unmapped
+  unmapped_of : (w : Why) → holder (records_of map) bank location ≡ Err w → Unmapped
   unmapped_of w e x =
       clash (holds x.0 bank location) (is_holding x.0 bank location x.2)
       (holder_none bank location (records_of map) w e x.0 x.1)
 
-  says : (f : Found) → holder (records_of map) bank location ≡ f → Says map bank location f
-  says (At r) e =
+  says : (f : Result Record Why) → holder (records_of map) bank location ≡ f → Says map bank location f
+  says (Ok r) e =
       let x = holder_at bank location (records_of map) r e in
       (x.0, holds_is r bank location x.1)
-  says (Missing w) e =
+  says (Err w) e =
       let u = unmapped_of w e in
       let same : why (records_of map) bank location ≡ w = cc (none_holder bank location (records_of map) (none_holds u)) in
       tells_says w u (subst (Tells bank location In) same (why_tells bank location (records_of map)))
 
-  said : (f : Found) → Says map bank location f → holder (records_of map) bank location ≡ f
-  said (At r) s = holder_hit map o bank location r s.0 s.1
-  said (Missing w) s =
+  said : (f : Result Record Why) → Says map bank location f → holder (records_of map) bank location ≡ f
+  said (Ok r) s = holder_hit map o bank location r s.0 s.1
+  said (Err w) s =
       none_holder bank location (records_of map) (none_holds (says_unmapped w s))
-      ∙ ap Missing (tells_one bank location In _ _ (why_tells bank location (records_of map)) (says_tells w s))
+      ∙ ap Err (tells_one bank location In _ _ (why_tells bank location (records_of map)) (says_tells w s))
 
 pub found_exactly : FoundExactly
 found_exactly map o bank location f = (says map o bank location f, said map o bank location f)

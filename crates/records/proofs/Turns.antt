@@ -16,7 +16,7 @@ use Rattle.records.specs.Lookup.{holds, held_or, holder}
 use Rattle.records.specs.Halving.{Wanted, at_location, in_bank, middle, after, visits, visits_of, visited, halved, halved_bank, sought}
 use Rattle.records.specs.Promises.{MoreFuel}
 use Rattle.records.specs.declared.record.Record.{Record}
-use Rattle.records.specs.declared.holder.Found.TheVariants.{At, Missing}
+use Rattle.std.specs.Prelude.{Ok, Err}
 use Rattle.records.specs.declared.holder.Sought.{Sought}
 use Rattle.records.specs.declared.holder.Why.{Why}
 use Rattle.records.specs.declared.holder.Why.TheVariants.{Absent}
@@ -121,7 +121,7 @@ stops map s f v lt e q t = sym (v ∙ ap f (seen_here map s lt e q t))
 -- the record that holds a location, with the reason that is carried; and how many are counted, with those counted before
 abbrev pub sought_in : ℕ → ℕ → Why → ℕ → List Record → Sought
 sought_in bank location w n rs =
-    record { found = held_or (Missing (carried bank location w rs)) rs bank location; count = n + length rs }
+    record { found = held_or (Err (carried bank location w rs)) rs bank location; count = n + length rs }
 
 pub sought_skips : (bank location : ℕ) (w v : Why) (n : ℕ) (r : Record) → v ≡ told bank location r w → (rs : List Record)
     → holds r bank location ≡ false
@@ -131,7 +131,7 @@ sought_skips bank location w v n r e rs t =
     rw (t, e, one_more)
 
 pub sought_has : (bank location : ℕ) (w : Why) (n : ℕ) (r : Record) → holds r bank location ≡ true
-    → record { found = At r; count = n + 1 } ≡ sought_in bank location w n (r ∷ [])
+    → record { found = Ok r; count = n + 1 } ≡ sought_in bank location w n (r ∷ [])
 sought_has bank location w n r t = rw t
 
 pub sought_starts : (map : List ℕ) (bank location n : ℕ) → n ≡ length map / 8
@@ -140,17 +140,17 @@ unfolding sought halved visited holder
 sought_starts map bank location n e =
     let l = visits_of map (at_location bank location) in
     let rs = each (record_at map) l in
-    ap (λ (w : Why). record { found = held_or (Missing w) rs bank location; count = length l })
+    ap (λ (w : Why). record { found = held_or (Err w) rs bank location; count = length l })
     (sym (carried_why bank location rs))
-    ∙ ap (λ (k : ℕ). record { found = held_or (Missing (carried bank location Absent rs)) rs bank location; count = k })
+    ∙ ap (λ (k : ℕ). record { found = held_or (Err (carried bank location Absent rs)) rs bank location; count = k })
     (sym (length-map l (record_at map)) ∙ sym (zero-add (length rs)))
     ∙ ap (sought_in bank location Absent 0) (seen_start map (at_location bank location) n e)
 
 pub sought_ends : (map : List ℕ) (bank location low high : ℕ) (v w : Why) (n : ℕ) → v ≡ w → high ≤ low
-    → record { found = Missing v; count = n } ≡ sought_in bank location w n (seen map (at_location bank location) low high)
+    → record { found = Err v; count = n } ≡ sought_in bank location w n (seen map (at_location bank location) low high)
 sought_ends map bank location low high v w n e h =
     rw (e, seen_end map (at_location bank location) low high h)
-    (ap (λ (k : ℕ). record { found = Missing w; count = k }) (omega arith))
+    (ap (λ (k : ℕ). record { found = Err w; count = k }) (omega arith))
 
 -- a bank's records
 abbrev pub mapped_in : ℕ → List Record → Bool

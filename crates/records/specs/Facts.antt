@@ -1,11 +1,10 @@
 -- What the rules 7 to 9 say, as facts about numbers: the floors above lean on these, and not on the tests.
 -- Assumes nothing.
-use Rattle.std.specs.Prelude.{◌≡◌, ◌⊎◌, true, ℕ, ◌≤◌, ◌<◌}
+use Rattle.std.specs.Prelude.{◌≡◌, ◌⊎◌, true, ℕ, ◌≤◌, ◌<◌, Result, Ok, Err}
 use mathlib.Core.List.{List, [], ◌∷◌, Memᴰ}
 use Rattle.records.specs.Map.{record_at, records_of, writable, locations_end}
 use Rattle.records.specs.declared.record.Record.{Record}
-use Rattle.records.specs.declared.holder.Found.{Found}
-use Rattle.records.specs.declared.holder.Found.TheVariants.{At, Missing}
+use Rattle.records.specs.declared.holder.Why.{Why}
 use Rattle.records.specs.declared.holder.Why.TheVariants.{Absent, Hole, Past}
 
 -- a record of the map
@@ -53,11 +52,11 @@ pub record IsPast (map : List ℕ) (bank location : ℕ) : Type 0 where
   pub below : (k : ℕ) → MappedAt map bank k → k < location
 
 -- what each answer of a look-up says
-abbrev pub Says : List ℕ → ℕ → ℕ → Found → Type 0
-Says map bank location (At r) = Member r map × Holds r bank location
-Says map bank location (Missing Absent) = IsAbsent map bank
-Says map bank location (Missing (Hole n)) = IsHole map bank location n
-Says map bank location (Missing Past) = IsPast map bank location
+abbrev pub Says : List ℕ → ℕ → ℕ → Result Record Why → Type 0
+Says map bank location (Ok r) = Member r map × Holds r bank location
+Says map bank location (Err Absent) = IsAbsent map bank
+Says map bank location (Err (Hole n)) = IsHole map bank location n
+Says map bank location (Err Past) = IsPast map bank location
 
 -- no position twice
 abbrev pub Distinct : List ℕ → Type 0

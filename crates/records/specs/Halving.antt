@@ -1,10 +1,9 @@
 -- Look-up by halving, and the positions that it visits. Paper 02, Items 3 and 5.
 -- Assumes nothing.
-use Rattle.std.specs.Prelude.{ℕ, zero, suc, ◌+◌, ◌-◌, ◌/◌, Bool, ◌&&◌, ◌||◌, List, [], ◌∷◌, map as each, ltb, eqb, length, if◌then◌else◌}
+use Rattle.std.specs.Prelude.{ℕ, zero, suc, ◌+◌, ◌-◌, ◌/◌, Bool, ◌&&◌, ◌||◌, List, [], ◌∷◌, map as each, ltb, eqb, length, if◌then◌else◌, Result}
 use Rattle.records.specs.Map.{record_at, mapped}
 use Rattle.records.specs.Lookup.{holds, holder}
 use Rattle.records.specs.declared.record.Record.{Record}
-use Rattle.records.specs.declared.holder.Found.{Found}
 use Rattle.records.specs.declared.holder.Sought.{Sought}
 use Rattle.records.specs.declared.holder.Why.{Why}
 use Rattle.records.specs.declared.holder.Why.TheVariants.{Absent, Hole, Past}
@@ -59,7 +58,7 @@ unfoldable pub beside : ℕ → ℕ → ℕ → ℕ → Why
 beside bank below above next = if eqb above bank then Hole next else if eqb below bank then Past else Absent
 
 -- what halving finds: of the records that it visits, the one that holds the location, or why none of them does
-unfoldable pub halved : List ℕ → ℕ → ℕ → Found
+unfoldable pub halved : List ℕ → ℕ → ℕ → Result Record Why
 halved map bank location = holder (each (record_at map) (visited map bank location)) bank location
 
 -- and how many records it examines: the length of the list of record positions that it visits

@@ -1,13 +1,9 @@
 -- Which record holds a location, or why none does; and which value begins there. Paper 01, "Map, store, reset image", and
 -- paper 02, Item 4.
 -- Assumes nothing.
-use Rattle.std.specs.Prelude.{ℕ, Bool, ◌&&◌, List, [], ◌∷◌, leb, ltb, eqb, if◌then◌else◌}
+use Rattle.std.specs.Prelude.{ℕ, Bool, ◌&&◌, List, [], ◌∷◌, leb, ltb, eqb, if◌then◌else◌, Option, Some, None, Result, Ok, Err}
 use Rattle.records.specs.Map.{locations_end, mapped}
 use Rattle.records.specs.declared.record.Record.{Record}
-use Rattle.records.specs.declared.holder.Beginning.{Beginning}
-use Rattle.records.specs.declared.holder.Beginning.TheVariants.{Begins, NoValue}
-use Rattle.records.specs.declared.holder.Found.{Found}
-use Rattle.records.specs.declared.holder.Found.TheVariants.{At, Missing}
 use Rattle.records.specs.declared.holder.Why.{Why}
 use Rattle.records.specs.declared.holder.Why.TheVariants.{Absent, Hole, Past}
 
@@ -36,19 +32,19 @@ unfoldable pub why : List Record → ℕ → ℕ → Why
 why rs bank location = if mapped rs bank then next rs bank location else Absent
 
 -- the record that holds the location, or what is said where none does
-abbrev pub held_or : Found → List Record → ℕ → ℕ → Found
+abbrev pub held_or : Result Record Why → List Record → ℕ → ℕ → Result Record Why
 held_or none [] bank location = none
-held_or none (r ∷ rs) bank location = if holds r bank location then At r else held_or none rs bank location
+held_or none (r ∷ rs) bank location = if holds r bank location then Ok r else held_or none rs bank location
 
 -- the record that holds the location, or why none does
-unfoldable pub holder : List Record → ℕ → ℕ → Found
-holder rs bank location = held_or (Missing (why rs bank location)) rs bank location
+unfoldable pub holder : List Record → ℕ → ℕ → Result Record Why
+holder rs bank location = held_or (Err (why rs bank location)) rs bank location
 
 -- of the record that holds a location: the value that begins there, or none
-unfoldable pub if_first : ℕ → Found → Beginning
-if_first location (At r) = if eqb r.first location then Begins r else NoValue
-if_first location (Missing w) = NoValue
+unfoldable pub if_first : ℕ → Result Record Why → Option Record
+if_first location (Ok r) = if eqb r.first location then Some r else None
+if_first location (Err w) = None
 
 -- the value that begins at a location
-unfoldable pub beginner : List Record → ℕ → ℕ → Beginning
+unfoldable pub beginner : List Record → ℕ → ℕ → Option Record
 beginner rs bank location = if_first location (holder rs bank location)

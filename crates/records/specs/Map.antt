@@ -1,6 +1,6 @@
 -- The map: records of 8 bytes. Paper 01, "Map, store, reset image".
 -- Assumes nothing.
-use Rattle.std.specs.Prelude.{ℕ, ◌+◌, ◌-◌, ◌*◌, ◌/◌, Bool, ◌||◌, List, eqb, length, get_or}
+use Rattle.std.specs.Prelude.{ℕ, ◌+◌, ◌*◌, ◌/◌, Bool, ◌||◌, List, eqb, length, get_or}
 use Rattle.laws.specs.Lists.{items, some}
 use Rattle.records.specs.declared.record.Record.{Record}
 
@@ -16,10 +16,6 @@ record_at map i =
       zero = get_or map (8 * i + 5) 0;
       offset = get_or map (8 * i + 6) 0 * 256 + get_or map (8 * i + 7) 0;
     }
-
--- the records from number i on
-abbrev pub records_from : List ℕ → ℕ → List Record
-records_from map i = items (record_at map) i (length map / 8 - i)
 
 -- the map is records of 8 bytes, no header
 unfoldable pub records_of : List ℕ → List Record

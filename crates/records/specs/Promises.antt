@@ -1,6 +1,6 @@
 -- What is proved of a map by itself: the numbers, the records, the look-up. The proofs stand in proofs/.
 -- Assumes nothing.
-use Rattle.std.specs.Prelude.{◌≡◌, ◌↔◌, true, false, ℕ, ◌/◌, ◌^◌, ◌≤◌, ◌<◌, length}
+use Rattle.std.specs.Prelude.{◌≡◌, ◌↔◌, true, false, ℕ, ◌/◌, ◌^◌, ◌≤◌, ◌<◌, length, Some, Result, Ok, Err}
 use mathlib.Core.List.{List, [], Memᴰ}
 use Rattle.laws.specs.Numbers.{Given}
 use Rattle.laws.specs.Settled.{Settles}
@@ -10,9 +10,6 @@ use Rattle.records.specs.Lookup.{holds, holder, beginner}
 use Rattle.records.specs.Halving.{Wanted, visits, visits_of, visited, halved, halved_bank}
 use Rattle.records.specs.Facts.{Member, FieldsHold, Before, Holds, Says, Distinct, AgreeAt}
 use Rattle.records.specs.declared.record.Record.{Record}
-use Rattle.records.specs.declared.holder.Beginning.TheVariants.{Begins}
-use Rattle.records.specs.declared.holder.Found.{Found}
-use Rattle.records.specs.declared.holder.Found.TheVariants.{At, Missing}
 use Rattle.records.specs.declared.holder.Why.{Why}
 
 -- The numbers.
@@ -43,20 +40,20 @@ MembersRise =
 abbrev pub HolderHit : Type 0
 HolderHit =
     (map : List ℕ) → ordered map ≡ true → (bank location : ℕ) (r : Record) → Member r map → Holds r bank location
-    → holder (records_of map) bank location ≡ At r
+    → holder (records_of map) bank location ≡ Ok r
 
 -- it is missing exactly if no record holds it
 abbrev pub HolderNone : Type 0
 HolderNone =
     (map : List ℕ) (bank location : ℕ)
-    → ((w : Why) × (holder (records_of map) bank location ≡ Missing w))
+    → ((w : Why) × (holder (records_of map) bank location ≡ Err w))
     ↔ ((r : Record) → Member r map → holds r bank location ≡ false)
 
 -- a record is found at its first location, and begins there
 abbrev pub FirstFound : Type 0
 FirstFound =
     (map : List ℕ) → ordered map ≡ true → (r : Record) → Member r map
-    → (holder (records_of map) r.bank r.first ≡ At r) × (beginner (records_of map) r.bank r.first ≡ Begins r)
+    → (holder (records_of map) r.bank r.first ≡ Ok r) × (beginner (records_of map) r.bank r.first ≡ Some r)
 
 -- a bank is mapped exactly if it has a record
 abbrev pub MappedMember : Type 0
@@ -69,14 +66,14 @@ MappedMember =
 -- the look-up gives an answer exactly if what that answer says is so
 abbrev pub FoundExactly : Type 0
 FoundExactly =
-    (map : List ℕ) → ordered map ≡ true → (bank location : ℕ) (f : Found)
+    (map : List ℕ) → ordered map ≡ true → (bank location : ℕ) (f : Result Record Why)
     → (holder (records_of map) bank location ≡ f) ↔ Says map bank location f
 
 -- one of the four answers is always so, and no two are
 abbrev pub OneAnswer : Type 0
 OneAnswer =
     (map : List ℕ) → ordered map ≡ true → (bank location : ℕ)
-    → (f : Found) × Says map bank location f × ((g : Found) → Says map bank location g → g ≡ f)
+    → (f : Result Record Why) × Says map bank location f × ((g : Result Record Why) → Says map bank location g → g ≡ f)
 
 -- Halving. Paper 02, Item 3: every answer stays what it was.
 
@@ -143,8 +140,8 @@ AnswerTells =
 
 -- What the public call promises of its result r; answers that meet the same promise are equal.
 
-abbrev pub OrderNumberPromise : List ℕ → ℕ → Type 0
-OrderNumberPromise map r = r ≡ order_number map
+abbrev pub CheckOrderPromise : List ℕ → ℕ → Type 0
+CheckOrderPromise map r = r ≡ order_number map
 
 abbrev pub OrderSettled : Type 0
-OrderSettled = (map : List ℕ) → Settles (OrderNumberPromise map)
+OrderSettled = (map : List ℕ) → Settles (CheckOrderPromise map)

@@ -2,7 +2,8 @@
 ghost use Rattle.std.specs.Prelude.{◌≡◌, ◌+◌, ◌*◌, ◌/◌, ◌≤◌, length};
 ghost use Rattle.records.specs.Map.{record_at, writable, locations_end, places_end};
 
-#[derive(Clone, Copy)]
+// Kept: kind and lockable as numbers: what may not change, a record is any eight bytes, and `fields_hold` refuses a kind of 5.
+#[derive(Clone, Copy, Debug, PartialEq, Eq)]
 pub struct Record {
     pub bank: u8,
     pub first: u8,
@@ -13,15 +14,8 @@ pub struct Record {
     pub offset: u16,
 }
 
-// Two bytes, high first.
-fn word(high: u8, low: u8) -> u16
-    ensures { result ≡ high * 256 + low }
-{
-    high as u16 * 256 + low as u16
-}
-
 // How many records the map has.
-pub fn records(map: &[u8]) -> usize
+pub fn record_count(map: &[u8]) -> usize
     ensures { result ≡ length map.now / 8 }
 {
     map.len() / 8
@@ -41,26 +35,28 @@ pub fn record_at(map: &[u8], i: usize) -> Record
         kind: map[at + 3],
         lockable: map[at + 4],
         zero: map[at + 5],
-        offset: word(map[at + 6], map[at + 7]),
+        offset: u16::from_be_bytes([map[at + 6], map[at + 7]]),
     }
 }
 
-pub fn is_writable(r: Record) -> bool
-    ensures { result ≡ writable r }
-{
-    (r.kind == 2) | (r.kind == 4)
-}
+impl Record {
+    pub fn is_writable(self) -> bool
+        ensures { result ≡ writable self }
+    {
+        (self.kind == 2) | (self.kind == 4)
+    }
 
-// The location after its last one.
-pub fn locations_end(r: Record) -> usize
-    ensures { result ≡ locations_end r }
-{
-    r.first as usize + r.width as usize
-}
+    // The location after its last one.
+    pub fn locations_end(self) -> usize
+        ensures { result ≡ locations_end self }
+    {
+        self.first as usize + self.width as usize
+    }
 
-// The store place after its last one.
-pub fn places_end(r: Record) -> usize
-    ensures { result ≡ places_end r }
-{
-    r.offset as usize + r.width as usize
+    // The store place after its last one.
+    pub fn places_end(self) -> usize
+        ensures { result ≡ places_end self }
+    {
+        self.offset as usize + self.width as usize
+    }
 }

@@ -1,4 +1,5 @@
 pub mod Codes
+pub mod Groups
 pub mod Dues
 pub mod Powered
 pub mod Promises

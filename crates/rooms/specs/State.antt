@@ -1,7 +1,7 @@
 -- The state in rooms: one setter for each room, and what stands in a room that is not in use.
 -- Paper 01, "State and clock".
 -- Assumes nothing.
-use Rattle.std.specs.Prelude.{true, false}
+use Rattle.std.specs.Prelude.{Bool, true, false}
 use Rattle.memory.specs.Staged.{none_staged}
 use Rattle.memory.specs.Latched.{none_latched}
 use Rattle.memory.specs.declared.latched.Latch.{Latch}
@@ -31,12 +31,16 @@ with_latch s x = record { who = s.who; registers = s.registers; waiting = s.wait
 abbrev pub zero_registers : Registers
 zero_registers = record { dtr0 = 0; dtr1 = 0; dtr2 = 0 }
 
+-- open or shut, and nothing staged
+abbrev pub empty_door : Bool → Door
+empty_door enabled = record { enabled = enabled; staged = none_staged }
+
 -- closing drops staging
 abbrev pub shut_door : Door
-shut_door = record { enabled = false; staged = none_staged }
+shut_door = empty_door false
 
 abbrev pub open_door : Door
-open_door = record { enabled = true; staged = none_staged }
+open_door = empty_door true
 
 -- DTRs 0; nothing waiting, enabled, staged or latched. What is not named stays: address and groups
 unfoldable pub powered_on : State → State

@@ -10,6 +10,6 @@ pub use due::{Due, due_by, with_dtr};
 pub use reply::{Reply, Stepped, answering, quiet, refusing};
 pub use rules::{address_holds, state_holds};
 pub use state::{
-    Door, Registers, State, open_door, powered_on, shut_door, with_door, with_latch,
-    with_registers, with_waiting, with_who, zero_state,
+    Door, Registers, State, empty_door, powered_on, with_door, with_latch, with_registers,
+    with_waiting, with_who, zero_state,
 };

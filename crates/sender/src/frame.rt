@@ -1,27 +1,21 @@
 // A frame of a session, as a line of words or as a trace record.
-use crate::printed::print;
-use streams::write_all;
-use text::{Line, say_frame};
-
-// Six digits, and what it says.
-fn print_words(rt: &HostRuntime, frame: u32) -> bool {
-    let digits = Line::new().frame(frame).add(b"  ");
-    print(&rt.stdout(), say_frame(digits, frame))
-}
+use std::io;
+use streams::Form;
+use text::Frame;
 
 // 8 bytes: the clock, 4 of them, high first; kind 0; the frame, 3, high first.
-fn print_record(rt: &HostRuntime, clock: u8, frame: u32) -> bool {
-    let high = (frame / 65536 % 256) as u8;
-    let middle = (frame / 256 % 256) as u8;
-    let low = (frame % 256) as u8;
-    let record = [0, 0, 0, clock, 0, high, middle, low];
-    write_all(&rt.stdout(), &record)
+fn record(clock: u8, frame: u32) -> [u8; 8] {
+    let [_, high, middle, low] = frame.to_be_bytes();
+    [0, 0, 0, clock, 0, high, middle, low]
 }
 
-// Answers whether all of it is written.
-pub fn print_frame(rt: &HostRuntime, record: bool, clock: u8, frame: u32) -> bool {
-    if record {
-        return print_record(rt, clock, frame);
+// In words its six digits, and what it says.
+pub fn write_frame(rt: &HostRuntime, form: Form, clock: u8, frame: u32) -> io::Result<()> {
+    match form {
+        Form::Words => {
+            let words = Frame(frame);
+            println!(rt; "{frame:06X}  {words}")
+        }
+        Form::Bytes => rt.write_all(&record(clock, frame)),
     }
-    print_words(rt, frame)
 }

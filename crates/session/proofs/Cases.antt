@@ -2,6 +2,7 @@
 -- Assumes nothing.
 use mathlib.Core.Path.{refl}
 use Rattle.frames.specs.Write.{bytes_frame, write_of}
+use Rattle.refusals.specs.Numbers.{refusal_of}
 use Rattle.records.specs.Order.{order_number}
 use Rattle.records.specs.Lookup.{nearer, next, why}
 use Rattle.numbers.proofs.Computing.{reading, checking, looking, meaning, storing, keeping, rooms}
@@ -17,7 +18,7 @@ unfolding bytes_frame write_of lock_writes messages_of framed session_with sessi
 sending = tt
 
 pub session_cases : SessionCases
-unfolding reading checking looking meaning storing filling keeping rooms acting calling sending order_number why next nearer
+unfolding refusal_of reading checking looking meaning storing filling keeping rooms acting calling sending order_number why next nearer
 session_cases =
     record {
       waiting = refl;
@@ -25,6 +26,7 @@ session_cases =
       outputs = refl;
       numbers = refl;
       refusals = refl;
+      no_frames = refl;
       frames = refl;
       words = refl;
     }

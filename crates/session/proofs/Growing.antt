@@ -50,7 +50,7 @@ grown_from (m ∷ ms) done h =
     ∙ grown_from ms (done ++ m ∷ []) (omega (arith, length-append done (m ∷ [])))
     ∙ ap session_with (append_snoc done m ms)
 
-pub grown : (ms : List Message) → length ms ≤ 13 → sent_all (without_frames 0) ms ≡ session_with ms
+pub grown : (ms : List Message) → length ms ≤ 13 → sent_all without_frames ms ≡ session_with ms
 unfolding session_with
 grown ms h = grown_from ms [] (omega arith)
 
@@ -107,15 +107,15 @@ fits a b = omega arith
 
 -- the four calls that make a session
 module _ (address : ℕ) (r : Record) (bytes : List ℕ) (h : length bytes ≤ 8) where
-  pub opened_count : (opened : Session) → opened ≡ sent_all (without_frames 0) (opening address r.bank) → opened.count ≡ 3
-  opened_count opened o = more (without_frames 0) (opening address r.bank) opened o
+  pub opened_count : (opened : Session) → opened ≡ sent_all without_frames (opening address r.bank) → opened.count ≡ 3
+  opened_count opened o = more without_frames (opening address r.bank) opened o
 
-  pub unlocked_count : (opened unlocked : Session) → opened ≡ sent_all (without_frames 0) (opening address r.bank)
+  pub unlocked_count : (opened unlocked : Session) → opened ≡ sent_all without_frames (opening address r.bank)
       → unlocked ≡ sent_all opened (lock_writes r 0x55) → unlocked.count ≤ 4
   unlocked_count opened unlocked o u =
       omega (arith, opened_count opened o, more opened (lock_writes r 0x55) unlocked u, length_lock r 0x55)
 
-  pub whole_count : (opened unlocked whole : Session) → opened ≡ sent_all (without_frames 0) (opening address r.bank)
+  pub whole_count : (opened unlocked whole : Session) → opened ≡ sent_all without_frames (opening address r.bank)
       → unlocked ≡ sent_all opened (lock_writes r 0x55) → whole ≡ sent_all unlocked (byte_writes r.first bytes)
       → whole.count < 13
   whole_count opened unlocked whole o u w =
@@ -127,7 +127,7 @@ module _ (address : ℕ) (r : Record) (bytes : List ℕ) (h : length bytes ≤ 8
       )
 
   pub all_sent : (opened unlocked whole locked : Session)
-      → opened ≡ sent_all (without_frames 0) (opening address r.bank) → unlocked ≡ sent_all opened (lock_writes r 0x55)
+      → opened ≡ sent_all without_frames (opening address r.bank) → unlocked ≡ sent_all opened (lock_writes r 0x55)
       → whole ≡ sent_all unlocked (byte_writes r.first bytes) → locked ≡ sent_all whole (lock_writes r 0xFF)
       → locked ≡ session_with (messages_of address r bytes)
   unfolding messages_of
@@ -135,7 +135,7 @@ module _ (address : ℕ) (r : Record) (bytes : List ℕ) (h : length bytes ≤ 8
       let a = opening address r.bank in
       let b = lock_writes r 0x55 in
       let c = byte_writes r.first bytes in
-      let none = without_frames 0 in
+      let none = without_frames in
       l ∙ ap (λ (s : Session). sent_all s (lock_writes r 0xFF))
       (w ∙ ap (λ (s : Session). sent_all s c)
       (u ∙ ap (λ (s : Session). sent_all s b) o ∙ sym (sent_append none a b)) ∙ sym (sent_append none (a ++ b) c))

@@ -2,18 +2,18 @@
 -- Assumes nothing.
 use Prim.Native.Nat.{ℕ, suc, ◌+◌, ◌-◌, ◌<◌}
 use mathlib.Core.Path.{◌≡◌, refl, ap, sym, subst, ◌∙◌}
-use mathlib.Core.Bool.{Bool}
 use mathlib.Core.List.{List, [], ◌∷◌, ◌++◌, append_assoc, map as each}
 use native.Mathlib.Omega.{arith}
 use native.Mathlib.Nat.{add-zero}
 use lib.ListN.{length, get_or, replicate, length-map, get_or-append}
+use Rattle.std.specs.Prelude.{Option, Ok}
 use Rattle.laws.specs.Lists.{items}
 use Rattle.laws.specs.Outcome.{Outcome, leaves}
 use Rattle.frames.specs.declared.message.Message.{Message}
 use Rattle.records.specs.Map.{records_of}
 use Rattle.hearing.specs.Pairs.{heard_at}
 use Rattle.hearing.specs.declared.heard.Heard.{Heard}
-use Rattle.rooms.specs.Reply.{accepted, answering}
+use Rattle.rooms.specs.Reply.{answering}
 use Rattle.rooms.specs.declared.reply.Stepped.{Stepped}
 use Rattle.rooms.specs.declared.state.State.{State}
 use Rattle.numbers.specs.Numbers.{power_number}
@@ -94,14 +94,14 @@ module _ (map image : List ℕ) where
   none_leads store s e = record { accepted = tt; runs = refl; again = e }
 
   -- one frame
-  pub one_leads : (store : List ℕ) (s : State) (heard : Heard) (answered : Bool) (answer : ℕ) (after : State) (left : List ℕ)
+  pub one_leads : (store : List ℕ) (s : State) (heard : Heard) (answer : Option ℕ) (after : State) (left : List ℕ)
       → power_number map store (length image) s ≡ 0 → heard.frame < 16777216
-      → frame_step (records_of map) store image s heard ≡ leaves (answering after answered answer) left
-      → Leads store s (hears heard ∷ []) (output_of (accepted answered answer)) after left
+      → frame_step (records_of map) store image s heard ≡ leaves (answering after answer) left
+      → Leads store s (hears heard ∷ []) (output_of (Ok answer)) after left
   unfolding input_of output_of answering
-  one_leads store s heard answered answer after left e small f =
+  one_leads store s heard answer after left e small f =
       let n = (accepted_again map store image).next s heard e small in
-      let is : step_of map store image s heard ≡ leaves (answering after answered answer) left =
+      let is : step_of map store image s heard ≡ leaves (answering after answer) left =
       (calls_accepted map store image).step s heard n ∙ f in
       record {
         accepted = ((calls_reply map store image).step s heard ∙ n, tt);

@@ -9,6 +9,7 @@ use native.Mathlib.Omega.{arith}
 use borrow.Author.Tests.{eq-eqb, ne_eqb}
 use lib.ListN.{length, get_or, set}
 use lib.Seq.{sets, set-set, set_comm}
+use Rattle.std.specs.Prelude.{Ok}
 use Rattle.laws.specs.Parts.{put}
 use Rattle.laws.proofs.PartBytes.{byte_stays}
 use Rattle.laws.proofs.Tests.{if_lt, if_eq}
@@ -16,7 +17,6 @@ use Rattle.records.specs.Map.{records_of, places_end}
 use Rattle.records.specs.Lookup.{holder}
 use Rattle.records.specs.Facts.{Member}
 use Rattle.records.specs.declared.record.Record.{Record}
-use Rattle.records.specs.declared.holder.Found.TheVariants.{At}
 use Rattle.banks.specs.Rules.{placed}
 use Rattle.banks.specs.Values.{put_value}
 use Rattle.banks.specs.Facts.{LockRecord}
@@ -58,7 +58,7 @@ module _ (map store bytes : List ℕ) (r : Record) (place : placed map (length s
 
   -- lockable: its bank has a lock byte, which is another value
   module _ (l : Record) (z : r.lockable ≡ 1) (L : LockRecord map r.bank l)
-      (at : holder (records_of map) r.bank 0x02 ≡ At l) where
+      (at : holder (records_of map) r.bank 0x02 ≡ Ok l) where
     unlike : r ≡ l → ⊥
     unlike e = absurd (omega (arith, ap (λ (x : Record). x.lockable) e, L.no_lock))
 

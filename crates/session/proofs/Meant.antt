@@ -5,12 +5,11 @@ use mathlib.Core.Path.{◌≡◌, ap, subst, ◌∙◌}
 use mathlib.Core.Bool.{true}
 use borrow.Author.Tests.{lt-ltb, eq-eqb}
 use native.Mathlib.Omega.{arith}
+use Rattle.std.specs.Prelude.{Ok}
 use Rattle.frames.specs.Read.{read_of}
 use Rattle.frames.specs.Values.{WritingFits}
 use Rattle.frames.specs.Write.{message_fits, write_of}
 use Rattle.frames.specs.declared.message.Message.{Message}
-use Rattle.frames.specs.declared.message.Reading.{Reading}
-use Rattle.frames.specs.declared.message.Writing.{Writing}
 use Rattle.frames.proofs.Round.{reads_back, writings_fit}
 use Rattle.hearing.specs.Meaning.{device_command, first_special, special_command, message_meaning, reading_meaning, meaning_of}
 use Rattle.hearing.specs.declared.heard.Who.{Who}
@@ -21,13 +20,13 @@ use Rattle.session.specs.Session.{set_bank, enable_write, direct_write, framed}
 
 -- a message in range is written, and its frame reads back the same
 pub record Framed (m : Message) : Type 0 where
-  pub reads : read_of (framed m) ≡ Reading.Got m
+  pub reads : read_of (framed m) ≡ Ok m
   pub small : framed m < 16777216
 
 pub framed_is : (m : Message) → message_fits m ≡ true → Framed m
 unfolding framed write_of
 framed_is m e =
-    let written : write_of m ≡ Writing.Frame (framed m) = rw e in
+    let written : write_of m ≡ Ok (framed m) = rw e in
     let fits = subst WritingFits written (writings_fit m) in
     record { reads = reads_back m (framed m) written; small = fits }
 

@@ -3,16 +3,17 @@
 use Prim.Native.Nat.{ℕ, zero, suc, ◌+◌, ◌%◌, ◌^◌, ◌≤◌, ◌<◌}
 use mathlib.Core.Path.{◌≡◌, refl, ap, sym, subst, ◌∙◌}
 use mathlib.Core.Logic.{⊎_elim}
-use mathlib.Core.Bool.{true, false}
+use mathlib.Core.Bool.{true}
 use mathlib.Core.List.{List, [], ◌∷◌, ◌++◌}
 use native.Mathlib.Omega.{arith}
 use borrow.Author.Tests.{eq-eqb, ne_eqb}
 use lib.ListN.{length, get_or}
+use Rattle.std.specs.Prelude.{None, Result, Ok}
+use Rattle.refusals.specs.declared.refusal.Refusal.{Refusal}
 use Rattle.records.specs.Map.{records_of, writable, locations_end}
 use Rattle.records.specs.Lookup.{holder}
 use Rattle.records.specs.Facts.{Member}
 use Rattle.records.specs.declared.record.Record.{Record}
-use Rattle.records.specs.declared.holder.Found.TheVariants.{At}
 use Rattle.records.proofs.Members.{member_fields}
 use Rattle.records.proofs.Locations.{mapped_member}
 use Rattle.banks.specs.Rules.{placed}
@@ -30,7 +31,7 @@ use Rattle.unit.specs.Run.{Input, output_of, Run}
 use Rattle.unit.specs.Bench.{none, answer}
 use Rattle.unit.proofs.Sound.{power_sound}
 use Rattle.session.specs.Session.{set_bank, enable_write, opening, byte_writes, lock_writes, messages_of, framed}
-use Rattle.session.specs.Session.{session_of}
+use Rattle.session.specs.Session.{session_of, handed}
 use Rattle.session.specs.Running.{heard_of, store_left, StoreLeft, state_left, byte_answers, lock_answers, answers_of}
 use Rattle.session.specs.Running.{clock_at, Runs, AreBytes, SessionRuns, SessionRunsAtAnyPace}
 use Rattle.session.specs.declared.answer.Session.{Session}
@@ -55,11 +56,11 @@ module _ (map store image : List ℕ) (s : State) (address bank : ℕ) (clocks :
       let small = (enable_framed address short).small in
       let means = enable_means s.who address short mine in
       let heard = heard_at (clocks 1) enable in
-      let bank_told = one_leads map image store s (heard_at (clocks 0) (framed (set_bank bank))) false 0 (told s bank) store e
+      let bank_told = one_leads map image store s (heard_at (clocks 0) (framed (set_bank bank))) None (told s bank) store e
       (set_bank_framed bank low).small (dtr1_step rs store image s bank _ (set_bank_means s.who bank low)) in
-      let first = one_leads map image store (told s bank) heard false 0 (asked s bank heard) store bank_told.again small
+      let first = one_leads map image store (told s bank) heard None (asked s bank heard) store bank_told.again small
       (first_step rs store image s bank heard means) in
-      let second = one_leads map image store (asked s bank heard) (heard_at (clocks 2) enable) false 0
+      let second = one_leads map image store (asked s bank heard) (heard_at (clocks 2) enable) None
       (open_at s bank s.registers.dtr0 none_staged) store first.again small
       (second_step rs store image s bank _ heard means (in_time_lem (clocks 1) (clocks 2) enable pair)) in
       then_leads map image bank_told (then_leads map image first second)
@@ -134,7 +135,7 @@ module _ (map store image : List ℕ) (s : State) (address : ℕ) (clocks : ℕ 
 
   -- lock byte 0x55 before it and 0xFF after
   module _ (l : Record) (z : r.lockable ≡ 1) (L : LockRecord map r.bank l)
-      (found : holder (records_of map) r.bank 0x02 ≡ At l) where
+      (found : holder (records_of map) r.bank 0x02 ≡ Ok l) where
     lock_leads : (byte at : ℕ) (c : ℕ → ℕ) (t : List ℕ) → byte < 256 → placed map (length t) ≡ true
         → power_number map t (length image) (open_at s r.bank at none_staged) ≡ 0
         → Leads map image t (open_at s r.bank at none_staged) (heard_from c (lock_writes r byte)) (lock_answers r byte)
@@ -225,12 +226,12 @@ session_runs_at_any_pace map store image s address bank location bytes e mine sm
     record { r = r; begins = stood.begins; runs = go stood b }
   where
     go : (k : Stood map address bank location (length bytes)) → Member k.r map × (k.r.bank ≡ bank) × (k.r.first ≡ location)
-        → Runs map store image s clocks (session_of map address bank location bytes) k.r bytes
+        → Runs map store image s clocks (handed (session_of map address bank location bytes)) k.r bytes
     go k b =
         let r = k.r in
         let standing = (power_sound map store (length image) s e).standing in
         let is = session_is map address bank location bytes k in
-        let heard = ap (heard_of clocks) is ∙ heard_is clocks (messages_of address r bytes) in
+        let heard = ap (λ (x : Result Session Refusal). heard_of clocks (handed x)) is ∙ heard_is clocks (messages_of address r bytes) in
         let fit = fit_count address r (length bytes) k.fit in
         let w = fit.0 in
         ⊎_elim

@@ -7,19 +7,18 @@ use native.Mathlib.Omega.{arith}
 use lib.Dec.{eqb}
 use lib.ListN.{length, take, replicate, length-append, length-map, length-replicate}
 use lib.Seq.{take_at, drop_at}
+use Rattle.std.specs.Prelude.{Option, Some, Result, Ok}
 use Rattle.laws.proofs.Bits.{bits_is}
 use Rattle.laws.proofs.Tests.{if_by, if_eq}
+use Rattle.refusals.specs.Numbers.{number_in}
+use Rattle.refusals.specs.declared.refusal.Refusal.{Refusal}
 use Rattle.frames.specs.Read.{read_of}
 use Rattle.frames.specs.declared.message.Message.{Message}
-use Rattle.frames.specs.declared.message.Reading.{Reading}
-use Rattle.frames.specs.declared.message.Reading.TheVariants.{Got}
 use Rattle.records.specs.Facts.{FieldsHold}
 use Rattle.records.specs.declared.record.Record.{Record}
-use Rattle.records.specs.declared.holder.Beginning.{Beginning}
-use Rattle.records.specs.declared.holder.Beginning.TheVariants.{Begins}
 use Rattle.records.proofs.Members.{member_fields}
 use Rattle.session.specs.Session.{byte_writes, lock_writes, opening, messages_of, framed}
-use Rattle.session.specs.Session.{without_frames, session_with, session_number, session_of, session_word}
+use Rattle.session.specs.Session.{without_frames, session_with, session_number, session_of, handed, session_word}
 use Rattle.session.specs.Running.{AreBytes}
 use Rattle.session.specs.Promises.{Places, SessionPlaces, SessionReads, SessionShows, SessionAlone}
 use Rattle.session.specs.Promises.{SessionWordSettled}
@@ -42,8 +41,8 @@ with_places ms h =
       unused = drop_at (each framed ms) unused (length ms) (length-map ms framed);
     }
 
-refused_places : (n : ℕ) → Places (without_frames n)
-refused_places n = record { as_many = refl; most = omega arith; unused = refl }
+refused_places : Places without_frames
+refused_places = record { as_many = refl; most = omega arith; unused = refl }
 
 -- number 0: as many frames as the value has messages
 module _ (map : List ℕ) (address bank location : ℕ) (bytes : List ℕ)
@@ -60,15 +59,19 @@ module _ (map : List ℕ) (address bank location : ℕ) (bytes : List ℕ)
       let fit = fit_count address stood.r (length bytes) stood.fit in
       messages_most address stood.r bytes (omega (arith, fields.most_width, fit.0))
 
-  written_places : Places (session_of map address bank location bytes)
-  written_places = subst Places (sym (session_is map address bank location bytes stood)) (with_places _ few)
+  written_places : Places (handed (session_of map address bank location bytes))
+  written_places =
+      subst (λ (r : Result Session Refusal). Places (handed r)) (sym (session_is map address bank location bytes stood))
+      (with_places _ few)
 
 pub session_places : SessionPlaces
 session_places map address bank location bytes =
-    if_eq {A = ℕ} (λ _. Places (session_of map address bank location bytes))
+    if_eq {A = ℕ} (λ _. Places (handed (session_of map address bank location bytes)))
     (session_number map address bank location (length bytes)) 0 {x = 0} {y = 0}
     (λ e. written_places map address bank location bytes e)
-    (λ n. subst Places (sym (session_refused map address bank location bytes _ n refl)) (refused_places _))
+    (λ n.
+    subst (λ (r : Result Session Refusal). Places (handed r)) (sym (session_refused map address bank location bytes _ n refl))
+    refused_places)
 
 -- ---- what the frames read as
 
@@ -81,11 +84,11 @@ both_framed : (a b : List Message) → AllFramed a → AllFramed b → AllFramed
 both_framed [] b p q = q
 both_framed (m ∷ a) b p q = (p.0, both_framed a b p.1 q)
 
-read_back : (ms : List Message) → AllFramed ms → each read_of (each framed ms) ≡ each Got ms
+read_back : (ms : List Message) → AllFramed ms → each read_of (each framed ms) ≡ each Ok ms
 read_back [] f = refl
 read_back (m ∷ ms) f =
-    ap (λ (r : Reading). r ∷ each read_of (each framed ms)) f.0.reads
-    ∙ ap (λ (l : List Reading). Got m ∷ l) (read_back ms f.1)
+    ap (λ (r : Result Message Refusal). r ∷ each read_of (each framed ms)) f.0.reads
+    ∙ ap (λ (l : List (Result Message Refusal)). Ok m ∷ l) (read_back ms f.1)
 
 lock_framed : (r : Record) (byte : ℕ) → byte < 256 → AllFramed (lock_writes r byte)
 unfolding lock_writes
@@ -115,7 +118,7 @@ messages_framed address r bytes short f small w =
     (bytes_framed r.first bytes small (omega (arith, f.last))))
     (lock_framed r 0xFF (omega arith))
 
-begins_one : {v : Beginning} {x y : Record} → v ≡ Begins x → v ≡ Begins y → x ≡ y
+begins_one : {v : Option Record} {x y : Record} → v ≡ Some x → v ≡ Some y → x ≡ y
 begins_one p q = cc
 
 pub session_reads : SessionReads
@@ -126,9 +129,9 @@ session_reads map address bank location bytes r small e b =
     let ms = messages_of address r bytes in
     let fit = fit_count address k.r (length bytes) k.fit in
     let f = member_fields map k.in_order r (begins_in map bank location r b).0 in
-    let is : session_of map address bank location bytes ≡ session_with ms =
-    session_is map address bank location bytes k ∙ ap (λ (x : Record). session_with (messages_of address x bytes)) (sym same) in
-    ap (λ (s : Session). each read_of (take s.count s.frames)) is
+    let is : session_of map address bank location bytes ≡ Ok (session_with ms) =
+    session_is map address bank location bytes k ∙ ap (λ (x : Record). Ok (session_with (messages_of address x bytes))) (sym same) in
+    ap (λ (s : Result Session Refusal). each read_of (take (handed s).count (handed s).frames)) is
     ∙ ap (each read_of) (take_at (each framed ms) (replicate (13 - length ms) 0) (length ms) (length-map ms framed))
     ∙ read_back ms
     (messages_framed address r bytes fit.1 f small (ap (λ (x : Record). x.width) same ∙ sym fit.0))
@@ -140,17 +143,19 @@ unfolding session_word
 session_shows map address bank location bytes e =
     let s = session_of map address bank location bytes in
     let most = (session_places map address bank location bytes).most in
-    let none : s.number ≡ 0 = number_is map address bank location bytes ∙ e in
+    let none : number_in s ≡ 0 = number_is map address bank location bytes ∙ e in
     record {
-      number = bits_is _ 7 0 s.count s.number 0 (omega arith) (omega arith) (omega arith);
-      count = bits_is _ 31 8 0 s.count s.number (omega arith) (omega arith) (omega arith);
+      number = bits_is _ 7 0 (handed s).count (number_in s) 0 (omega arith) (omega arith) (omega arith);
+      count = bits_is _ 31 8 0 (handed s).count (number_in s) (omega arith) (omega arith) (omega arith);
     }
 
 pub session_alone : SessionAlone
 unfolding session_word
 session_alone map address bank location bytes h =
     let n = session_number map address bank location (length bytes) in
-    ap session_word (session_refused map address bank location bytes n (λ z. absurd (omega arith)) refl) ∙ omega arith
+    let none = ap (λ (r : Result Session Refusal). (handed r).count)
+    (session_refused map address bank location bytes n (λ z. absurd (omega arith)) refl) in
+    omega (arith, none, number_is map address bank location bytes)
 
 pub session_word_settled : SessionWordSettled
 session_word_settled map address bank location bytes r s frames other p q =

@@ -2,10 +2,11 @@
 -- Assumes nothing.
 use Prim.Native.Nat.{ℕ, ◌+◌, ◌%◌, ◌^◌, ◌≤◌}
 use mathlib.Core.Path.{◌≡◌, refl, ◌∙◌}
-use mathlib.Core.Bool.{true, false}
+use mathlib.Core.Bool.{true}
 use mathlib.Core.List.{List}
 use native.Mathlib.Omega.{arith}
 use borrow.Author.Tests.{eq-eqb, ne_eqb, le-leb}
+use Rattle.std.specs.Prelude.{Some, None}
 use Rattle.laws.specs.Outcome.{leaves}
 use Rattle.records.specs.Map.{mapped}
 use Rattle.records.specs.declared.record.Record.{Record}
@@ -65,13 +66,13 @@ open_at s bank location g =
 module _ (rs : List Record) (store image : List ℕ) (s : State) (bank : ℕ) (heard : Heard) where
   -- DTR1: any waiting frame is cleared, whatever it is, and the door is as it was
   pub dtr1_step : meaning_of s.who heard.frame ≡ AtOnce (SetDtr 1 bank)
-      → frame_step rs store image s heard ≡ leaves (answering (told s bank) false 0) store
+      → frame_step rs store image s heard ≡ leaves (answering (told s bank) None) store
   unfolding frame_step due_of due_by once_due done cleared quiet answering with_dtr with_registers with_waiting
   dtr1_step e = rw e
 
   -- ENABLE, where none waits: it waits itself, and the door is shut
   pub first_step : meaning_of s.who heard.frame ≡ NeedsPair EnableWriteMemory
-      → frame_step rs store image (told s bank) heard ≡ leaves (answering (asked s bank heard) false 0) store
+      → frame_step rs store image (told s bank) heard ≡ leaves (answering (asked s bank heard) None) store
   unfolding frame_step due_of due_by done cleared quiet answering with_waiting with_door
   first_step e = rw (e, none_completes heard)
 
@@ -79,7 +80,7 @@ module _ (rs : List Record) (store image : List ℕ) (s : State) (bank : ℕ) (h
   pub second_step : (first : Heard) → meaning_of s.who heard.frame ≡ NeedsPair EnableWriteMemory
       → completes (waits_for first) heard ≡ true
       → frame_step rs store image (asked s bank first) heard
-      ≡ leaves (answering (open_at s bank s.registers.dtr0 none_staged) false 0) store
+      ≡ leaves (answering (open_at s bank s.registers.dtr0 none_staged) None) store
   unfolding frame_step due_of due_by pair_due done cleared quiet answering with_waiting with_door
   second_step first e p = rw (e, p)
 
@@ -88,7 +89,7 @@ module _ (rs : List Record) (store image : List ℕ) (s : State) (bank : ℕ) (h
       → meaning_of s.who heard.frame ≡ AtOnce (DirectWriteMemory location byte)
       → (after : Staged) (left : List ℕ) → write_byte rs store g bank location byte ≡ leaves (wrote true after) left
       → frame_step rs store image (open_at s bank at g) heard
-      ≡ leaves (answering (open_at s bank (location + 1) after) true byte) left
+      ≡ leaves (answering (open_at s bank (location + 1) after) (Some byte)) left
   unfolding frame_step due_of due_by once_due write_due done cleared written raised answering with_dtr with_registers with_waiting with_door
   write_step at location byte g m n e after left w = rw (e, m, w, ne_eqb location 0xFF n)
 

@@ -10,12 +10,12 @@ use borrow.Author.Tests.{eq-eqb, ne_eqb, le-leb}
 use lib.Dec.{eqb}
 use lib.ListN.{length, take, replicate, length-append}
 use lib.Seq.{take_at, append_snoc}
+use Rattle.std.specs.Prelude.{Some, Ok}
 use Rattle.laws.specs.Outcome.{leaves}
 use Rattle.records.specs.Map.{records_of, writable, mapped, locations_end}
 use Rattle.records.specs.Lookup.{holder}
 use Rattle.records.specs.Facts.{Member, FieldsHold}
 use Rattle.records.specs.declared.record.Record.{Record}
-use Rattle.records.specs.declared.holder.Found.TheVariants.{At}
 use Rattle.records.proofs.Members.{member_fields}
 use Rattle.records.proofs.Locations.{holder_hit, mapped_member}
 use Rattle.banks.specs.Rules.{placed}
@@ -48,7 +48,7 @@ module _ (map store image : List ℕ) (s : State) (r : Record)
   bank_mapped : mapped (records_of map) r.bank ≡ true
   bank_mapped = (mapped_member map r.bank).1 (r, member, refl)
 
-  at_number : (k : ℕ) → k < r.width → holder (records_of map) r.bank (r.first + k) ≡ At r
+  at_number : (k : ℕ) → k < r.width → holder (records_of map) r.bank (r.first + k) ≡ Ok r
   at_number k h =
       holder_hit map (placed_ordered map (length store) place) r.bank (r.first + k) r member
       (record { same_bank = refl; from = omega arith; to = omega arith })
@@ -122,7 +122,7 @@ module _ (map store image : List ℕ) (s : State) (r : Record)
     one_write h k after left w =
         let last = fields.last in
         let location = r.first + length done in
-        one_leads map image store (open_at s r.bank at g) (heard_at (clocks 0) (framed (direct_write location b))) true b
+        one_leads map image store (open_at s r.bank at g) (heard_at (clocks 0) (framed (direct_write location b))) (Some b)
         (open_at s r.bank (location + 1) after) left e (direct_framed location b (omega arith) k).small
         (write_step (records_of map) store image s r.bank _ at location b g bank_mapped (λ z. absurd (omega arith))
         (direct_means s.who location b (omega arith) k) after left w)

@@ -1,11 +1,13 @@
 -- Worked cases: sessions of paper 01's bench unit and of a wide value, with their frames; refusals in their order; and the bench
 -- unit's session run from states that it has reached. Three tables and one statement.
 -- Assumes nothing.
-use Rattle.std.specs.Prelude.{◌≡◌, List, [], ◌∷◌, ◌++◌, map as each, ℕ}
+use Rattle.std.specs.Prelude.{◌≡◌, List, [], ◌∷◌, ◌++◌, map as each, ℕ, Result, Err}
+use Rattle.refusals.specs.Numbers.{number_in, refusal_of}
+use Rattle.refusals.specs.declared.refusal.Refusal.{Refusal}
 use Rattle.records.specs.Cases.{bench_map, map_row}
 use Rattle.unit.specs.Bench.{bench_image, bench_run, at, none, answer}
 use Rattle.unit.specs.Run.{Input, Run, run_from}
-use Rattle.session.specs.Session.{without_frames, session_of, session_word}
+use Rattle.session.specs.Session.{without_frames, session_of, handed, session_word}
 use Rattle.session.specs.Running.{heard_of, clock_at}
 use Rattle.session.specs.declared.answer.Session.{Session}
 
@@ -28,7 +30,7 @@ abbrev pub bench_value : List ℕ
 bench_value = 0x00 ∷ 0x00 ∷ 0x01 ∷ 0x2C ∷ []
 
 abbrev pub bench_session : Session
-bench_session = session_of bench_map 5 2 0x03 bench_value
+bench_session = handed (session_of bench_map 5 2 0x03 bench_value)
 
 abbrev eight : List ℕ
 eight = 0x11 ∷ 0x22 ∷ 0x33 ∷ 0x44 ∷ 0x55 ∷ 0x66 ∷ 0x77 ∷ 0x88 ∷ []
@@ -55,7 +57,7 @@ frame_cases =
     ∷ 0xC5F711 ∷ 0xC5F822 ∷ 0xC5F933 ∷ 0xC5FA44 ∷ 0xC5FB55 ∷ 0xC5FC66 ∷ 0xC5FD77 ∷ 0xC5FE88 ∷ 0xC502FF ∷ [])
     ∷ []
 
-abbrev session_in : SessionCase → Session
+abbrev session_in : SessionCase → Result Session Refusal
 session_in c = session_of c.records c.address c.bank c.location c.bytes
 
 -- ---- refusals
@@ -145,9 +147,10 @@ pub record SessionCases : Type 0 where
   pub stores : each (λ c. (ran c).store) (waits ∷ run_cases) ≡ each (λ c. bench_written) (waits ∷ run_cases)
   pub outputs : each (λ c. (ran c).output) (waits ∷ run_cases) ≡ each (λ c. bench_answers) (waits ∷ run_cases)
   -- each refused case gets its number, and no frame
-  pub numbers : each (λ c. (session_in c.asked).number) refused_cases ≡ each (λ c. c.number) refused_cases
-  pub refusals : each (λ c. session_in c.asked) refused_cases ≡ each (λ c. without_frames c.number) refused_cases
+  pub numbers : each (λ c. number_in (session_in c.asked)) refused_cases ≡ each (λ c. c.number) refused_cases
+  pub refusals : each (λ c. session_in c.asked) refused_cases ≡ each (λ c. Err (refusal_of c.number)) refused_cases
+  pub no_frames : each (λ c. handed (session_in c.asked)) refused_cases ≡ each (λ c. without_frames) refused_cases
   -- each session has its frames
-  pub frames : each (λ c. (session_in c).frames) frame_cases ≡ each (λ c. c.frames) frame_cases
+  pub frames : each (λ c. (handed (session_in c)).frames) frame_cases ≡ each (λ c. c.frames) frame_cases
   -- and as one number its count
   pub words : each (λ c. session_word (session_in c)) frame_cases ≡ 0x900 ∷ 0x400 ∷ 0xB00 ∷ 0xD00 ∷ []

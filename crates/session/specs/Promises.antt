@@ -1,18 +1,18 @@
 -- What is proved of a session as a call. The proofs stand in proofs/.
 -- Assumes nothing.
-use Rattle.std.specs.Prelude.{◌≡◌, ◌⊎◌, ◌↔◌, true, List, map as each, ℕ, ◌-◌, ◌≤◌, ◌<◌, eqb, length, take, drop, replicate, if◌then◌else◌}
+use Rattle.std.specs.Prelude.{◌≡◌, ◌⊎◌, ◌↔◌, true, List, map as each, ℕ, ◌-◌, ◌≤◌, ◌<◌, eqb, length, take, drop, replicate, if◌then◌else◌, Some, Result, Ok}
 use Rattle.laws.specs.Bits.{bits}
 use Rattle.laws.specs.Numbers.{Given}
 use Rattle.laws.specs.Settled.{Settles}
+use Rattle.refusals.specs.Numbers.{number_in}
+use Rattle.refusals.specs.declared.refusal.Refusal.{Refusal}
 use Rattle.frames.specs.Read.{read_of}
-use Rattle.frames.specs.declared.message.Reading.TheVariants.{Got}
 use Rattle.records.specs.Map.{records_of, writable}
 use Rattle.records.specs.Order.{ordered, order_number}
 use Rattle.records.specs.Lookup.{beginner}
 use Rattle.records.specs.Facts.{Member}
 use Rattle.records.specs.declared.record.Record.{Record}
-use Rattle.records.specs.declared.holder.Beginning.TheVariants.{Begins}
-use Rattle.session.specs.Session.{messages_of, without_frames, session_tests, session_number, session_of, session_word}
+use Rattle.session.specs.Session.{messages_of, without_frames, session_tests, session_number, session_of, handed, session_word}
 use Rattle.session.specs.Running.{AreBytes}
 use Rattle.session.specs.declared.answer.Session.{Session}
 
@@ -54,29 +54,32 @@ pub record Places (s : Session) : Type 0 where
   pub unused : drop s.count s.frames ≡ replicate (13 - s.count) 0
 
 abbrev pub SessionPlaces : Type 0
-SessionPlaces = (map : List ℕ) (address bank location : ℕ) (bytes : List ℕ) → Places (session_of map address bank location bytes)
+SessionPlaces =
+    (map : List ℕ) (address bank location : ℕ) (bytes : List ℕ) → Places (handed (session_of map address bank location bytes))
 
 -- number 0: what is written reads back the same. The frames that are counted read as the session's messages, in their order
 abbrev pub SessionReads : Type 0
 SessionReads =
     (map : List ℕ) (address bank location : ℕ) (bytes : List ℕ) (r : Record) → AreBytes bytes
-    → session_number map address bank location (length bytes) ≡ 0 → beginner (records_of map) bank location ≡ Begins r
-    → each read_of (take (session_of map address bank location bytes).count (session_of map address bank location bytes).frames)
-    ≡ each Got (messages_of address r bytes)
+    → session_number map address bank location (length bytes) ≡ 0 → beginner (records_of map) bank location ≡ Some r
+    → each read_of
+    (take (handed (session_of map address bank location bytes)).count (handed (session_of map address bank location bytes)).frames)
+    ≡ each Ok (messages_of address r bytes)
 
 -- a refusal: its number, no frame
 abbrev pub SessionRefuses : Type 0
 SessionRefuses =
     (map : List ℕ) (address bank location : ℕ) (bytes : List ℕ) (n : ℕ) → 0 < n
-    → (session_of map address bank location bytes ≡ without_frames n)
+    → ((number_in (session_of map address bank location bytes) ≡ n)
+    × (handed (session_of map address bank location bytes) ≡ without_frames))
     ↔ (session_number map address bank location (length bytes) ≡ n)
 
 -- ---- as one number
 
 -- number | count << 8: each part stands in its bits
-pub record SessionBack (w : ℕ) (s : Session) : Type 0 where
-  pub number : bits w 7 0 ≡ s.number
-  pub count : bits w 31 8 ≡ s.count
+pub record SessionBack (w : ℕ) (r : Result Session Refusal) : Type 0 where
+  pub number : bits w 7 0 ≡ number_in r
+  pub count : bits w 31 8 ≡ (handed r).count
 
 abbrev pub SessionShows : Type 0
 SessionShows =
@@ -92,13 +95,13 @@ SessionAlone =
 -- ---- what each public call promises of its result r, and of the lent array. Results that meet the same promise are equal, and
 -- so are the arrays
 
-abbrev pub SessionPromise : List ℕ → ℕ → ℕ → ℕ → List ℕ → Session → Type 0
+abbrev pub SessionPromise : List ℕ → ℕ → ℕ → ℕ → List ℕ → Result Session Refusal → Type 0
 SessionPromise map address bank location bytes r = r ≡ session_of map address bank location bytes
 
 -- result and array are those of the session
-pub record Written (r : ℕ) (frames : List ℕ) (s : Session) : Type 0 where
+pub record Written (r : ℕ) (frames : List ℕ) (s : Result Session Refusal) : Type 0 where
   pub answers : r ≡ session_word s
-  pub writes : frames ≡ s.frames
+  pub writes : frames ≡ (handed s).frames
 
 abbrev pub SessionWordPromise : List ℕ → ℕ → ℕ → ℕ → List ℕ → ℕ → List ℕ → Type 0
 SessionWordPromise map address bank location bytes r frames =

@@ -1,14 +1,13 @@
 -- Running a session: its frames 1 ms apart, no others on the wire, and a unit holding that address; what the unit's own steps
 -- leave and answer. Paper 02, Item 2.
 -- Assumes nothing.
-use Rattle.std.specs.Prelude.{ℕ, ◌+◌, ◌%◌, ◌^◌, ◌≤◌, ◌<◌, ◌≡◌, ◌⊎◌, List, [], ◌∷◌, ◌++◌, eqb, length, get_or, if◌then◌else◌}
+use Rattle.std.specs.Prelude.{ℕ, ◌+◌, ◌%◌, ◌^◌, ◌≤◌, ◌<◌, ◌≡◌, ◌⊎◌, List, [], ◌∷◌, ◌++◌, eqb, length, get_or, if◌then◌else◌, Some, Result, Ok, Err}
 use Rattle.laws.specs.Lists.{items}
+use Rattle.refusals.specs.Numbers.{number_in}
 use Rattle.records.specs.Map.{records_of, locations_end, places_end}
 use Rattle.records.specs.Lookup.{holder, beginner}
 use Rattle.records.specs.declared.record.Record.{Record}
-use Rattle.records.specs.declared.holder.Beginning.TheVariants.{Begins}
-use Rattle.records.specs.declared.holder.Found.{Found}
-use Rattle.records.specs.declared.holder.Found.TheVariants.{At, Missing}
+use Rattle.records.specs.declared.holder.Why.{Why}
 use Rattle.banks.specs.Values.{value_of, put_value, lock_byte}
 use Rattle.hearing.specs.Pairs.{heard_at, passed, none_waits}
 use Rattle.rooms.specs.State.{with_registers, with_waiting, with_door, open_door}
@@ -17,7 +16,7 @@ use Rattle.numbers.specs.Numbers.{power_number}
 use Rattle.unit.specs.Run.{Input, hears, run_from}
 use Rattle.unit.specs.Keeping.{AllAccepted}
 use Rattle.unit.specs.Bench.{none, answer}
-use Rattle.session.specs.Session.{session_of}
+use Rattle.session.specs.Session.{session_of, handed}
 use Rattle.session.specs.declared.answer.Session.{Session}
 
 -- ---- what is heard
@@ -33,9 +32,9 @@ clock_at clock i = (clock + i) % 2 ^ 32
 -- ---- what is left
 
 -- a lock byte, put where one is
-unfoldable pub put_lock : Found → ℕ → List ℕ → List ℕ
-put_lock (At lock) byte store = put_value lock (byte ∷ []) store
-put_lock (Missing why) byte store = store
+unfoldable pub put_lock : Result Record Why → ℕ → List ℕ → List ℕ
+put_lock (Ok lock) byte store = put_value lock (byte ∷ []) store
+put_lock (Err why) byte store = store
 
 -- the store with the value as given and, for a lockable value, its bank's lock byte 0xFF
 unfoldable pub store_left : List Record → Record → List ℕ → List ℕ → List ℕ
@@ -52,7 +51,7 @@ pub record StoreLeft (map store : List ℕ) (r : Record) (bytes after : List ℕ
   -- and every other store byte as it was, be it under a record or under none
   pub others :
       (j : ℕ) → (j < r.offset) ⊎ (places_end r ≤ j)
-      → (r.lockable ≡ 1 → (lock : Record) → holder (records_of map) r.bank 0x02 ≡ At lock → j ≡ lock.offset → ⊥)
+      → (r.lockable ≡ 1 → (lock : Record) → holder (records_of map) r.bank 0x02 ≡ Ok lock → j ≡ lock.offset → ⊥)
       → get_or after j 0 ≡ get_or store j 0
   pub as_long : length after ≡ length store
 
@@ -106,15 +105,15 @@ AreBytes bytes = (i : ℕ) → get_or bytes i 0 < 256
 pub record RunsFrom (map store image : List ℕ) (s : State) (address bank location : ℕ) (bytes : List ℕ) (clocks : ℕ → ℕ)
     : Type 0 where
   pub r : Record
-  pub begins : beginner (records_of map) bank location ≡ Begins r
-  pub runs : Runs map store image s clocks (session_of map address bank location bytes) r bytes
+  pub begins : beginner (records_of map) bank location ≡ Some r
+  pub runs : Runs map store image s clocks (handed (session_of map address bank location bytes)) r bytes
 
 -- frames 1 ms apart, from any clock on
 abbrev pub SessionRuns : Type 0
 SessionRuns =
     (map store image : List ℕ) (s : State) (address bank location : ℕ) (bytes : List ℕ)
     → power_number map store (length image) s ≡ 0 → s.who.address ≡ address → AreBytes bytes
-    → (session_of map address bank location bytes).number ≡ 0
+    → number_in (session_of map address bank location bytes) ≡ 0
     → (clock : ℕ) → RunsFrom map store image s address bank location bytes (clock_at clock)
 
 -- and at any other pace: of all clocks only those of the two ENABLE count, frames 1 and 2, which have to be a pair
@@ -122,5 +121,5 @@ abbrev pub SessionRunsAtAnyPace : Type 0
 SessionRunsAtAnyPace =
     (map store image : List ℕ) (s : State) (address bank location : ℕ) (bytes : List ℕ)
     → power_number map store (length image) s ≡ 0 → s.who.address ≡ address → AreBytes bytes
-    → (session_of map address bank location bytes).number ≡ 0
+    → number_in (session_of map address bank location bytes) ≡ 0
     → (clocks : ℕ → ℕ) → passed (clocks 1) (clocks 2) ≤ 100 → RunsFrom map store image s address bank location bytes clocks

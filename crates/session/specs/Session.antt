@@ -1,18 +1,18 @@
 -- A session: the frames that write a value. Paper 02, Item 2; the numbers 7 to 9, 14 and 6 are those of paper 01.
 -- Assumes nothing.
-use Rattle.std.specs.Prelude.{ℕ, ◌+◌, ◌-◌, ◌*◌, ◌^◌, Bool, true, false, ◌&&◌, List, [], ◌∷◌, ◌++◌, map as each, leb, eqb, length, set, replicate, if◌then◌else◌}
+use Rattle.std.specs.Prelude.{ℕ, ◌+◌, ◌-◌, ◌*◌, ◌^◌, Bool, true, false, ◌&&◌, List, [], ◌∷◌, ◌++◌, map as each, leb, eqb, length, set, replicate, if◌then◌else◌, Option, Some, None, Result, Ok, Err}
 use Rattle.laws.specs.Numbers.{Test, test, first_failing}
+use Rattle.refusals.specs.Numbers.{number_in, refusal_of}
+use Rattle.refusals.specs.declared.refusal.Refusal.{Refusal}
+use Rattle.refusals.specs.declared.refusal.Refusal.TheVariants.{NoValue}
 use Rattle.frames.specs.Write.{write_of}
 use Rattle.frames.specs.declared.message.Address.{Address}
 use Rattle.frames.specs.declared.message.Message.{Message}
 use Rattle.frames.specs.declared.message.Target.{Target}
-use Rattle.frames.specs.declared.message.Writing.{Writing}
 use Rattle.records.specs.Map.{records_of, writable}
 use Rattle.records.specs.Order.{order_tests}
 use Rattle.records.specs.Lookup.{beginner}
 use Rattle.records.specs.declared.record.Record.{Record}
-use Rattle.records.specs.declared.holder.Beginning.{Beginning}
-use Rattle.records.specs.declared.holder.Beginning.TheVariants.{Begins, NoValue}
 use Rattle.session.specs.declared.answer.Session.{Session}
 
 -- ---- the messages
@@ -50,40 +50,40 @@ messages_of address r bytes =
 -- ---- the frames
 
 -- the frame that a message is written as; 0 where it cannot be, which no message of a session is
-abbrev pub frame_in : Writing → ℕ
-frame_in (Writing.Frame frame) = frame
-frame_in (Writing.Refused number) = 0
+abbrev pub frame_in : Result ℕ Refusal → ℕ
+frame_in (Ok frame) = frame
+frame_in (Err refusal) = 0
 
 unfoldable pub framed : Message → ℕ
 framed m = frame_in (write_of m)
 
--- no frame: all 13 places are 0. So is a refusal, with its number
-abbrev pub without_frames : ℕ → Session
-without_frames n = record { number = n; count = 0; frames = replicate 13 0 }
+-- no frame: all 13 places are 0
+abbrev pub without_frames : Session
+without_frames = record { count = 0; frames = replicate 13 0 }
 
 -- a frame for each message; unused places are 0
 unfoldable pub session_with : List Message → Session
 session_with ms =
-    record { number = 0; count = length ms; frames = each framed ms ++ replicate (13 - length ms) 0 }
+    record { count = length ms; frames = each framed ms ++ replicate (13 - length ms) 0 }
 
 -- ---- the tests
 
 -- 14 where no value begins
-abbrev pub begins : Beginning → Bool
-begins (Begins r) = true
-begins NoValue = false
+abbrev pub begins : Option Record → Bool
+begins (Some r) = true
+begins None = false
 
 -- 16 if it isn't writable
-abbrev pub may_write : Beginning → Bool
-may_write (Begins r) = writable r
-may_write NoValue = false
+abbrev pub may_write : Option Record → Bool
+may_write (Some r) = writable r
+may_write None = false
 
 -- 6 for a wrong byte count or an address over 63
-abbrev pub fits : Beginning → ℕ → ℕ → Bool
-fits (Begins r) address count = eqb count r.width && leb address 63
-fits NoValue address count = false
+abbrev pub fits : Option Record → ℕ → ℕ → Bool
+fits (Some r) address count = eqb count r.width && leb address 63
+fits None address count = false
 
-abbrev pub value_tests : Beginning → ℕ → ℕ → List Test
+abbrev pub value_tests : Option Record → ℕ → ℕ → List Test
 value_tests value address count =
     test 14 (begins value) ∷ test 16 (may_write value) ∷ test 6 (fits value address count) ∷ []
 
@@ -98,26 +98,31 @@ session_number map address bank location count = first_failing (session_tests ma
 -- ---- the call
 
 -- the session of a value that begins where it is asked for; where none does, it is refused (above)
-unfoldable pub session_at : Beginning → ℕ → List ℕ → Session
-session_at (Begins r) address bytes = session_with (messages_of address r bytes)
-session_at NoValue address bytes = without_frames 14
+unfoldable pub session_at : Option Record → ℕ → List ℕ → Result Session Refusal
+session_at (Some r) address bytes = Ok (session_with (messages_of address r bytes))
+session_at None address bytes = Err NoValue
 
 -- from a map, a unit's short address, a bank, a value's first location and its bytes: the frames
-unfoldable pub session_of : List ℕ → ℕ → ℕ → ℕ → List ℕ → Session
+unfoldable pub session_of : List ℕ → ℕ → ℕ → ℕ → List ℕ → Result Session Refusal
 session_of map address bank location bytes =
     if eqb (session_number map address bank location (length bytes)) 0
     then session_at (beginner (records_of map) bank location) address bytes
-    else without_frames (session_number map address bank location (length bytes))
+    else Err (refusal_of (session_number map address bank location (length bytes)))
+
+-- what is handed out: the session, and of a refusal no frame
+abbrev pub handed : Result Session Refusal → Session
+handed (Ok s) = s
+handed (Err e) = without_frames
 
 -- as one number: number | count << 8
-unfoldable pub session_word : Session → ℕ
-session_word s = s.number + s.count * 2 ^ 8
+unfoldable pub session_word : Result Session Refusal → ℕ
+session_word r = number_in r + (handed r).count * 2 ^ 8
 
 -- ---- inside the call: a session as it grows
 
 -- one frame more
 unfoldable pub sent : Session → ℕ → Session
-sent s frame = record { number = s.number; count = s.count + 1; frames = set s.frames s.count frame }
+sent s frame = record { count = s.count + 1; frames = set s.frames s.count frame }
 
 -- a frame for each message
 abbrev pub sent_all : Session → List Message → Session
@@ -126,9 +131,9 @@ sent_all s (m ∷ ms) = sent_all (sent s (framed m)) ms
 
 -- of a value, where 7 to 9 and 14 have passed: 16, 6, then the frames
 unfoldable pub value_number : ℕ → Record → ℕ → ℕ
-value_number address r count = first_failing (value_tests (Begins r) address count)
+value_number address r count = first_failing (value_tests (Some r) address count)
 
-unfoldable pub value_session : ℕ → Record → List ℕ → Session
+unfoldable pub value_session : ℕ → Record → List ℕ → Result Session Refusal
 value_session address r bytes =
-    if eqb (value_number address r (length bytes)) 0 then session_with (messages_of address r bytes)
-    else without_frames (value_number address r (length bytes))
+    if eqb (value_number address r (length bytes)) 0 then Ok (session_with (messages_of address r bytes))
+    else Err (refusal_of (value_number address r (length bytes)))

@@ -1,6 +1,7 @@
 // The session as one number, with its frames in a lent array.
 ghost use Rattle.session.specs.Promises.{SessionWordPromise};
 
+use crate::answer::without_frames;
 use crate::writer::session;
 
 // number | count << 8; all 13 places are always written.
@@ -15,8 +16,11 @@ pub fn session_word(
 ) -> u32
     ensures { SessionWordPromise map.now address bank location bytes.now result frames.new }
 {
-    let session = session(map, address, bank, location, bytes);
-    let all = session.frames;
+    let (number, handed) = match session(map, address, bank, location, bytes) {
+        Ok(session) => (0, session),
+        Err(refusal) => (refusal.number(), without_frames()),
+    };
+    let all = handed.frames;
     *frames = all;
-    session.number as u32 + session.count as u32 * 256
+    u32::from_le_bytes([number, handed.count, 0, 0])
 }

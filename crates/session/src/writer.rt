@@ -1,16 +1,15 @@
 // The session of a value: the tests, and the frames one after the other.
-ghost use Rattle.std.specs.Prelude.{◌≡◌, true, ◌+◌, ◌≤◌, ◌<◌, length};
+ghost use Rattle.std.specs.Prelude.{◌≡◌, ◌+◌, ◌≤◌, ◌<◌, length, Some};
 ghost use Rattle.records.specs.Map.{records_of, locations_end};
-ghost use Rattle.records.specs.Order.{ordered};
 ghost use Rattle.records.specs.Lookup.{beginner};
-ghost use Rattle.records.specs.declared.holder.Beginning.TheVariants.{Begins};
 ghost use Rattle.session.specs.Session.{opening, byte_writes, lock_writes, messages_of, without_frames, session_with};
 ghost use Rattle.session.specs.Session.{fits, sent_all, value_session};
 ghost use Rattle.session.specs.Promises.{SessionPromise};
 
-use crate::answer::{Session, sent, without_frames};
+use crate::answer::{Session, without_frames};
 use crate::messages::{direct_write, enable_write, set_bank};
-use records::{Beginning, Record, is_writable, order_number, value_at};
+use records::{Map, Record};
+use refusals::Refusal;
 
 // Internal: for a lockable value a write of its bank's lock byte.
 #[tactic(auto, unfolding(crate::specs::Session::lock_writes))]
@@ -21,7 +20,7 @@ fn lock_sent(session: Session, r: Record, byte: u8) -> Session
     if r.lockable == 0 {
         return session;
     }
-    sent(session, direct_write(0x02, byte))
+    session.sent(direct_write(0x02, byte))
 }
 
 // Internal: the bytes in order, from the first location on.
@@ -31,10 +30,8 @@ fn bytes_sent(session: Session, first: u8, bytes: &[u8]) -> Session
     ensures { result ≡ sent_all session (byte_writes first bytes.now) }
 {
     let mut next = session;
-    let mut i = 0;
-    while i < bytes.len() {
-        next = sent(next, direct_write(first + i as u8, bytes[i]));
-        i += 1;
+    for (i, byte) in bytes.iter().enumerate() {
+        next = next.sent(direct_write(first + i as u8, *byte));
     }
     next
 }
@@ -42,11 +39,11 @@ fn bytes_sent(session: Session, first: u8, bytes: &[u8]) -> Session
 // DTR1, the ENABLE pair.
 #[tactic(auto, unfolding(crate::specs::Session::sent))]
 fn opened(address: u8, bank: u8) -> Session
-    ensures { result ≡ sent_all (without_frames 0) (opening address bank) }
+    ensures { result ≡ sent_all without_frames (opening address bank) }
 {
     let dtr1 = set_bank(bank);
     let enable = enable_write(address);
-    sent(sent(sent(without_frames(0), dtr1), enable), enable)
+    without_frames().sent(dtr1).sent(enable).sent(enable)
 }
 
 // Internal: the frames that write a value: DTR1, the ENABLE pair, the bytes, and round them the lock byte.
@@ -62,53 +59,49 @@ fn written(address: u8, r: Record, bytes: &[u8]) -> Session
 
 // 6: as many bytes as the value has, and an address 0..63.
 fn is_fit(address: u32, r: Record, count: usize) -> bool
-    ensures { result ≡ fits (Begins r) address count }
+    ensures { result ≡ fits (Some r) address count }
 {
     (count == r.width as usize) & (address <= 63)
 }
 
 // Internal: 16, 6, then the frames.
-#[tactic(auto, using(laws::proofs::Sides::failed, laws::proofs::Sides::passed, crate::proofs::Numbered::not_writable, crate::proofs::Numbered::not_fit, crate::proofs::Numbered::fit_count, crate::proofs::Numbered::value_none, crate::proofs::Numbered::value_refused, crate::proofs::Numbered::value_written))]
-fn for_value(address: u32, r: Record, bytes: &[u8]) -> Session
+#[tactic(auto, using(laws::proofs::Sides::failed, laws::proofs::Sides::passed, crate::proofs::Numbered::fit_count, crate::proofs::Numbered::value_none, crate::proofs::Numbered::value_closed, crate::proofs::Numbered::value_unfit, crate::proofs::Numbered::value_written))]
+fn for_value(address: u32, r: Record, bytes: &[u8]) -> Result<Session, Refusal>
     requires { (r.width ≤ 8) × (locations_end r ≤ 255) }
     ensures { result ≡ value_session address r bytes.now }
 {
-    if !is_writable(r) {
-        return without_frames(16);
+    if !r.is_writable() {
+        return Err(Refusal::NotWritable);
     }
     if !is_fit(address, r, bytes.len()) {
-        return without_frames(6);
+        return Err(Refusal::OutOfRange);
     }
-    written(address as u8, r, bytes)
+    Ok(written(address as u8, r, bytes))
 }
 
 // Internal: the value that begins at the bank and location, which are wider than bytes, so that neither is cut to fit:
 // none begins at one over 255.
 #[tactic(auto, using(crate::proofs::Numbered::no_byte))]
-fn begins_at(map: &[u8], bank: u32, location: u32) -> Beginning
-    requires { ordered map.now ≡ true }
-    ensures { result ≡ beginner (records_of map.now) bank location }
+fn begins_at(map: Map, bank: u32, location: u32) -> Option<Record>
+    ensures { result ≡ beginner (records_of map.entry.bytes.now) bank location }
 {
-    if bank > 255 {
-        return Beginning::NoValue;
-    }
-    if location > 255 {
-        return Beginning::NoValue;
-    }
-    value_at(map, bank as u8, location as u8)
+    let bank = u8::try_from(bank).ok()?;
+    let location = u8::try_from(location).ok()?;
+    map.value_at(bank, location)
 }
 
 // The frames that write the bytes to the value that begins at the bank and location, in the unit of that short address.
-#[tactic(auto, using(records::proofs::Ordered::zero_ordered, crate::proofs::Numbered::number_refused, crate::proofs::Numbered::none_begins, crate::proofs::Numbered::session_refused, crate::proofs::Numbered::session_value))]
-pub fn session(map: &[u8], address: u32, bank: u32, location: u32, bytes: &[u8]) -> Session
+#[tactic(auto, using(crate::proofs::Numbered::map_refused, crate::proofs::Numbered::none_refused, crate::proofs::Numbered::session_value))]
+pub fn session(
+    map: &[u8],
+    address: u32,
+    bank: u32,
+    location: u32,
+    bytes: &[u8],
+) -> Result<Session, Refusal>
     ensures { SessionPromise map.now address bank location bytes.now result }
 {
-    let number = order_number(map);
-    if number != 0 {
-        return without_frames(number);
-    }
-    match begins_at(map, bank, location) {
-        Beginning::Begins(r) => for_value(address, r, bytes),
-        Beginning::NoValue => without_frames(14),
-    }
+    let map = Map::new(map)?;
+    let r = begins_at(map, bank, location).ok_or(Refusal::NoValue)?;
+    for_value(address, r, bytes)
 }

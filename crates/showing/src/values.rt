@@ -1,56 +1,33 @@
 // The values of the map, before and after.
-ghost use Rattle.std.specs.Prelude.{◌≤◌, length};
-
-use crate::page::put_line;
-use records::Record;
+use records::records;
+use std::fmt;
 use telling::{say_change, say_same};
 use text::Line;
 
-// Internal: a value that is another one now; if all are to be shown, a writable one that is the same too.
-fn put_value(
-    page: &mut [u8],
-    at: usize,
-    r: Record,
-    before: &[u8],
-    after: &[u8],
-    all: bool,
-    column: usize,
-) -> usize
-    requires { at ≤ length page.old }
-    ensures { result ≤ length page.old }
-{
-    let line = Line::new().column(column);
-    if before != after {
-        return put_line(page, at, say_change(line, r, before, after));
-    }
-    if all & records::is_writable(r) {
-        return put_line(page, at, say_same(line, r, before));
-    }
-    at
+// In map order, from a column on, each that is another one now in a line; if all are to be shown, each writable one that
+// is the same too.
+// Kept: a flag: the new form is no plainer: what it adds stands between the others, in map order, and two walks would part them.
+#[derive(Clone, Copy)]
+pub struct Values<'a> {
+    pub map: &'a [u8],
+    pub before: &'a [u8],
+    pub after: &'a [u8],
+    pub all: bool,
+    pub column: usize,
 }
 
-// Internal: a line for each of them, in map order, from a column on. Answers where they end.
-pub fn put_values(
-    page: &mut [u8],
-    at: usize,
-    map: &[u8],
-    before: &[u8],
-    after: &[u8],
-    all: bool,
-    column: usize,
-) -> usize
-    requires { at ≤ length page.old }
-    ensures { result ≤ length page.old }
-{
-    let n = records::records(map);
-    let mut end = at;
-    let mut i = 0;
-    while i < n {
-        let r = records::record_at(map, i);
-        let old = looks::look(map, before, r.bank, r.first);
-        let new = looks::look(map, after, r.bank, r.first);
-        end = put_value(page, end, r, old, new, all, column);
-        i += 1;
+impl fmt::Display for Values<'_> {
+    fn fmt<W: fmt::Write>(&self, f: &mut fmt::Formatter<W>) -> fmt::Result {
+        for r in records(self.map) {
+            let before = looks::look(self.map, self.before, r.bank, r.first);
+            let after = looks::look(self.map, self.after, r.bank, r.first);
+            let line = Line::new().column(self.column);
+            if before != after {
+                f.writeln(say_change(line, r, before, after))?;
+            } else if self.all && r.is_writable() {
+                f.writeln(say_same(line, r, before))?;
+            }
+        }
+        Ok(())
     }
-    end
 }

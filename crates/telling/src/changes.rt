@@ -13,30 +13,28 @@ fn say_waiting(line: Line, was: Waiting, is: Waiting, frame: u32) -> Line
 {
     let over = was.held & !is.held;
     let second = was.frame == frame;
-    let waits = tell_if(line, is.held, b"waits for its second half");
-    let complete = tell_if(waits, over & second, b"pair complete");
-    tell_if(complete, over & !second, b"the half before it is dropped")
+    let waits = tell_if(line, is.held, "waits for its second half");
+    let complete = tell_if(waits, over & second, "pair complete");
+    tell_if(complete, over & !second, "the half before it is dropped")
 }
 
 fn say_enabled(line: Line, was: bool, is: bool) -> Line
     ensures { line.length ≤ result.length }
 {
-    let opens = tell_if(line, is & !was, b"write-enable opens");
-    tell_if(opens, was & !is, b"write-enable closes")
+    let opens = tell_if(line, is & !was, "write-enable opens");
+    tell_if(opens, was & !is, "write-enable closes")
 }
 
 // The bytes that are staged now, of a value of that width, where they are others than before.
-fn say_staged(line: Line, was: Staged, is: Staged, width: u8) -> Line
+fn say_staged(line: Line, was: Staged, is: Staged, width: Option<u8>) -> Line
     ensures { line.length ≤ result.length }
 {
-    let same = (was.bank == is.bank) & (was.first == is.first) & (was.count == is.count);
-    if (is.count == 0) | (same & (was.bytes[0] == is.bytes[0])) {
+    if is.count == 0 || was == is {
         return line;
     }
-    tell(line, b"bytes staged: ")
-        .decimal(is.count as u32)
-        .add(b" of ")
-        .decimal(width as u32)
+    let count = is.count;
+    let width = width.unwrap_or(0);
+    tell(line, format_args!("bytes staged: {count} of {width}"))
 }
 
 // What became of the bytes that were staged, where they are no more: a write right behind them has completed the value,
@@ -49,34 +47,34 @@ fn say_unstaged(line: Line, was: Staged, is: Staged, enabled: bool, registers: R
     let follows = (registers.dtr1 == was.bank) & (registers.dtr0 as usize == behind);
     let over = (was.count > 0) & !kept;
     let whole = enabled & follows & (is.count == 0);
-    let completed = tell_if(line, over & whole, b"the value is whole");
-    tell_if(completed, over & !whole, b"staged bytes dropped")
+    let completed = tell_if(line, over & whole, "the value is whole");
+    tell_if(completed, over & !whole, "staged bytes dropped")
 }
 
-fn say_register(line: Line, words: &[u8], was: u8, is: u8) -> Line
+fn say_register(line: Line, name: &str, was: u8, is: u8) -> Line
     ensures { line.length ≤ result.length }
 {
     if was == is {
         return line;
     }
-    tell(line, words).hex(is)
+    tell(line, format_args!("{name} {is:02X}"))
 }
 
 fn say_registers(line: Line, was: Registers, is: Registers) -> Line
     ensures { line.length ≤ result.length }
 {
-    let second = say_register(line, b"DTR2 ", was.dtr2, is.dtr2);
-    let first = say_register(second, b"DTR1 ", was.dtr1, is.dtr1);
-    say_register(first, b"DTR0 ", was.dtr0, is.dtr0)
+    let second = say_register(line, "DTR2", was.dtr2, is.dtr2);
+    let first = say_register(second, "DTR1", was.dtr1, is.dtr1);
+    say_register(first, "DTR0", was.dtr0, is.dtr0)
 }
 
 fn say_address(line: Line, address: u8) -> Line
     ensures { line.length ≤ result.length }
 {
     if address == 255 {
-        return tell(line, b"no short address");
+        return tell(line, "no short address");
     }
-    tell(line, b"short address ").decimal(address as u32)
+    tell(line, format_args!("short address {address}"))
 }
 
 // The unit's address and its 32 group bits, as unit.adr has them.
@@ -84,45 +82,46 @@ pub fn say_who(line: Line, who: Who) -> Line
     ensures { line.length ≤ result.length }
 {
     let groups = who.groups;
-    let high = (groups / 16777216 % 256) as u8;
-    tell(say_address(line, who.address), b"groups ")
-        .hex(high)
-        .frame(groups)
+    tell(
+        say_address(line, who.address),
+        format_args!("groups {groups:08X}"),
+    )
 }
 
 fn say_named(line: Line, was: Who, is: Who) -> Line
     ensures { line.length ≤ result.length }
 {
-    if (was.address == is.address) & (was.groups == is.groups) {
+    if was == is {
         return line;
     }
     say_who(line, is)
 }
 
-fn say_door(line: Line, was: State, is: State, width: u8) -> Line
+fn say_door(line: Line, was: State, is: State, width: Option<u8>) -> Line
     ensures { line.length ≤ result.length }
 {
-    let before = was.door;
-    let after = is.door;
-    let left = before.staged;
-    let staged = after.staged;
-    let registers = is.registers;
-    let enabled = say_enabled(line, before.enabled, after.enabled);
-    let unstaged = say_unstaged(enabled, left, staged, after.enabled, registers);
+    let left = was.door.staged;
+    let staged = is.door.staged;
+    let enabled = say_enabled(line, was.door.enabled, is.door.enabled);
+    let unstaged = say_unstaged(enabled, left, staged, is.door.enabled, is.registers);
     say_staged(unstaged, left, staged, width)
 }
 
 // All that a record did, by the states before and after it, and whether the store is the same. A line that has not come
 // to that column tells of nothing.
-pub fn say_changes(line: Line, was: State, is: State, frame: u32, width: u8, same: bool) -> Line
+pub fn say_changes(
+    line: Line,
+    was: State,
+    is: State,
+    frame: u32,
+    width: Option<u8>,
+    same: bool,
+) -> Line
     ensures { line.length ≤ result.length }
 {
-    let waited = was.waiting;
-    let waits = is.waiting;
-    let before = was.registers;
-    let after = is.registers;
-    let paired = say_waiting(line, waited, waits, frame);
+    let paired = say_waiting(line, was.waiting, is.waiting, frame);
     let named = say_named(paired, was.who, is.who);
-    let loaded = say_registers(say_door(named, was, is, width), before, after);
-    tell_if(loaded, same & (loaded.length < 70), b"no effect")
+    let opened = say_door(named, was, is, width);
+    let loaded = say_registers(opened, was.registers, is.registers);
+    tell_if(loaded, same & (loaded.length < 70), "no effect")
 }

@@ -8,15 +8,14 @@ use entries::{Entry, entry_at, four_bytes};
 use hearing::{Meaning, Who};
 use records::Record;
 use rooms::State;
-use text::{Line, say_frame, say_value};
+use text::{Bytes, Frame, Line, Value};
 
 // What a record came to: the state after it, the answer, if there is one, and the width of the value whose bytes are staged.
 #[derive(Clone, Copy)]
 pub struct Step {
     pub state: State,
-    pub answered: bool,
-    pub answer: u8,
-    pub width: u8,
+    pub answer: Option<u8>,
+    pub width: Option<u8>,
 }
 
 // The clock of a record, with which its line begins.
@@ -24,7 +23,7 @@ fn say_clock(line: Line, record: &[u8; 8]) -> Line
     ensures { line.length ≤ result.length }
 {
     let clock = four_bytes(record[0], record[1], record[2], record[3]);
-    line.aligned(clock).add(b" ms  ")
+    line.and(format_args!("{clock:>8} ms  "))
 }
 
 // Who the frame is for, where it is not this unit, and what it asks, where that is nothing.
@@ -32,17 +31,17 @@ fn say_meaning(line: Line, meaning: Meaning) -> Line
     ensures { line.length ≤ result.length }
 {
     match meaning {
-        Meaning::Foreign => tell(line, b"not for this unit"),
-        Meaning::NotObeyed => tell(line, b"not obeyed"),
-        Meaning::AtOnce(_) => line,
-        Meaning::NeedsPair(_) => line,
+        Meaning::Foreign => tell(line, "not for this unit"),
+        Meaning::NotObeyed => tell(line, "not obeyed"),
+        Meaning::AtOnce(_) | Meaning::NeedsPair(_) => line,
     }
 }
 
 fn say_heard(line: Line, who: Who, frame: u32) -> Line
     ensures { line.length ≤ result.length }
 {
-    let said = say_frame(line.frame(frame).add(b"  "), frame);
+    let words = Frame(frame);
+    let said = line.and(format_args!("{frame:06X}  {words}"));
     say_meaning(said, hearing::meaning_of(who, frame))
 }
 
@@ -52,18 +51,18 @@ fn say_entry(line: Line, who: Who, entry: Entry) -> Line
 {
     match entry {
         Entry::Frame(_, frame) => say_heard(line, who, frame),
-        Entry::PowerOn => line.add(b"        power-on"),
+        Entry::PowerOn => line.and("        power-on"),
         Entry::Broken => line,
     }
 }
 
-fn say_answer(line: Line, answered: bool, answer: u8) -> Line
+fn say_answer(line: Line, answer: Option<u8>) -> Line
     ensures { line.length ≤ result.length }
 {
-    if answered {
-        return tell(line, b"answered ").hex(answer);
+    match answer {
+        Some(byte) => tell(line, format_args!("answered {byte:02X}")),
+        None => line,
     }
-    line
 }
 
 fn say_record(line: Line, record: &[u8; 8], who: Who) -> Line
@@ -92,27 +91,33 @@ pub fn say_step(
 {
     let is = step.state;
     let said = say_record(line, record, was.who);
-    let answered = say_answer(said, step.answered, step.answer);
+    let answered = say_answer(said, step.answer);
     let told = say_changes(answered, was, is, frame_of(record), step.width, same);
-    if step.answered {
+    if step.answer.is_some() {
         return told;
     }
     say_missed(told, map, was.who, was.registers, frame_of(record))
+}
+
+fn value_of(value: Record, bytes: &[u8]) -> Value {
+    Value {
+        bank: value.bank,
+        first: value.first,
+        bytes: Bytes(bytes),
+    }
 }
 
 // A value that is the same now.
 pub fn say_same(line: Line, value: Record, bytes: &[u8]) -> Line
     ensures { line.length ≤ result.length }
 {
-    say_value(line, value.bank, value.first, bytes).add(b" unchanged")
+    line.and(format_args!("{} unchanged", value_of(value, bytes)))
 }
 
 // A value that is another one now.
 pub fn say_change(line: Line, value: Record, before: &[u8], after: &[u8]) -> Line
     ensures { line.length ≤ result.length }
 {
-    say_value(line, value.bank, value.first, before)
-        .add(b" before, ")
-        .bytes(after)
-        .add(b" after")
+    let was = value_of(value, before);
+    line.and(format_args!("{was} before, {} after", Bytes(after)))
 }

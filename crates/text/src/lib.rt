@@ -1,9 +1,10 @@
-// What a frame, a refusal and a value say, as lines of text: the programs write them.
+// What a frame, a refusal and a value say, as text: the programs write it.
 #![tactic(auto)]
 
 mod line; // a line, written piece by piece
-mod sentences; // every sentence, one to a line
-mod said; // which sentence, of a frame, a refusal and a value
+mod messages; // what a frame says
+mod values; // a value's place and bytes
 
 pub use line::Line;
-pub use said::{say_frame, say_refusal, say_value};
+pub use messages::Frame;
+pub use values::{Bytes, Hex, Value};

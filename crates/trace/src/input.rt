@@ -1,60 +1,26 @@
 // Records on standard input, as they come, and what is written for them.
-ghost use Rattle.std.specs.Prelude.{◌≡◌, false, ◌*◌, ◌≤◌, length, take};
+ghost use Rattle.std.specs.Prelude.{◌≡◌, false, ◌≤◌, length, take, OnOk, IfOk};
 ghost use Rattle.tracing.specs.Flow.{Flows};
 
 use rooms::State;
-use std::io::Read;
-use streams::write_all;
+use std::io;
+use std::io::{Print, Read};
 use tracing::Flow;
 
-// Between two reads: where the trace stands, and whether all that was due is written.
-#[derive(Clone, Copy)]
-struct Turned {
-    flow: Flow,
-    written: bool,
-}
-
-// A program has no status of its own to end with: what it could not do it says on standard error.
-fn say(rt: &HostRuntime, sentence: &[u8]) {
-    write_all(&rt.stderr(), sentence);
-}
-
-// Answers whether all of it is written.
-fn put(rt: &HostRuntime, bytes: &[u8]) -> bool {
-    let written = write_all(&rt.stdout(), bytes);
-    if !written {
-        say(
-            rt,
-            b"trace: standard output cannot be written: the rest is lost\n",
-        );
-    }
-    written
-}
-
-fn note_read(rt: &HostRuntime, failed: bool) {
-    if failed {
-        say(rt, b"trace: standard input cannot be read\n");
-    }
-}
-
 // Internal: reads once, behind the bytes that are kept, and answers where the input ends then. A read that fails ends it.
-#[tactic(auto, using(crate::proofs::Ends::behind))]
+// Kept: a rule of the project (no heap): one buffer, and how far it is filled, as `tracing::go_on` takes them.
 fn read_more(rt: &HostRuntime, input: &mut [u8], kept: usize) -> usize
     requires { kept ≤ length input.old }
     ensures within { result ≤ length input.new }
     ensures part { result ≡ length (take result input.new) }
 {
-    let got = rt.stdin().read(&mut input[kept..]);
-    note_read(rt, got.is_err());
-    kept + got.unwrap_or(0)
-}
-
-// Internal: each record's four bytes. Answers whether all are written.
-fn write_answers(rt: &HostRuntime, output: &[u8], count: usize) -> bool
-    requires { 4 * count ≤ length output.now }
-{
-    let end = 4 * count;
-    put(rt, &output[..end])
+    match rt.stdin().read(&mut input[kept..]) {
+        Ok(got) => kept + got,
+        Err(_) => {
+            let _ = eprintln!(rt; "trace: standard input cannot be read");
+            kept
+        }
+    }
 }
 
 // Internal: reads once, and writes what the records answer that are whole then. A record cut by the read waits.
@@ -67,56 +33,53 @@ fn trace_some(
     flow: Flow,
     input: &mut [u8],
     output: &mut [u8],
-) -> Turned
+) -> io::Result<Flow>
     requires { (flow.ended ≡ false) × (flow.kept ≤ length input.old) × (length input.old ≤ length output.old) }
-    ensures { Flows result.flow }
+    ensures { IfOk result Flows }
 {
     let filled = read_more(rt, input, flow.kept);
     let next = tracing::go_on(map, store, image, flow, input, filled, output);
-    let written = write_answers(rt, output, next.count);
-    Turned {
-        flow: next,
-        written: written,
-    }
+    rt.write_all(&output[..4 * next.count])?;
+    Ok(next)
 }
 
-// The 13 of an unfinished record at the end. Answers whether all is written.
-fn write_end(rt: &HostRuntime, unfinished: bool, written: bool) -> bool {
-    if unfinished & written {
-        return put(rt, &[13, 0, 0, 0]);
-    }
-    written
-}
-
-// Answers whether all is written. A proved loop has to end, and nothing
-// says that the input does: so it counts its turns down, from a number that no run uses up.
+// A proved loop has to end, and nothing says that the input does: so it counts its turns, up to a number that no run
+// uses up. An unfinished record at the end is 13.
 #[tactic(auto, using(tracing::proofs::Flowing::flows_first))]
-fn trace_all(rt: &HostRuntime, map: &[u8], store: &mut [u8], image: &[u8], state: State) -> bool {
+fn trace_all(
+    rt: &HostRuntime,
+    map: &[u8],
+    store: &mut [u8],
+    image: &[u8],
+    state: State,
+) -> io::Result<()> {
     let mut input = [0u8; 65536];
     let mut output = [0u8; 65536];
-    let mut turned = Turned {
-        flow: tracing::begin(state),
-        written: true,
-    };
-    let mut turns = u64::MAX;
-    while turns > 0 && turned.flow.more && turned.written {
-        turned = trace_some(rt, map, store, image, turned.flow, &mut input, &mut output);
-        turns -= 1;
+    let mut flow = tracing::begin(state);
+    for _ in 0..u64::MAX {
+        if !flow.more {
+            break;
+        }
+        flow = trace_some(rt, map, store, image, flow, &mut input, &mut output)?;
     }
-    write_end(rt, turned.flow.unfinished, turned.written)
+    if flow.unfinished {
+        rt.write_all(&[13, 0, 0, 0])?;
+    }
+    Ok(())
 }
 
 // A refused start writes its 4 bytes only. Last the store is written.
-pub fn trace(rt: &HostRuntime, map: &[u8], store: &mut [u8], image: &[u8], adr: &[u8]) {
-    let number = tracing::number_of_files(map, store, image, adr);
-    if number != 0 {
-        put(rt, &[number, 0, 0, 0]);
-        return;
+pub fn trace(
+    rt: &HostRuntime,
+    map: &[u8],
+    store: &mut [u8],
+    image: &[u8],
+    adr: &[u8],
+) -> io::Result<()> {
+    if let Err(refusal) = tracing::check_files(map, store, image, adr) {
+        return rt.write_all(&[refusal.number(), 0, 0, 0]);
     }
-    let who = tracing::who_of(adr);
-    let started = unit::start(map, store, image, who);
-    let state = started.state;
-    if trace_all(rt, map, store, image, state) {
-        put(rt, store);
-    }
+    let started = unit::start(map, store, image, tracing::who_of(adr));
+    trace_all(rt, map, store, image, started.state)?;
+    rt.write_all(store)
 }

@@ -1,7 +1,7 @@
 -- One check is enough: what a record leaves passes 7 to 12 as what it found did.
 -- Assumes nothing.
 use Prim.Native.Nat.{ℕ}
-use mathlib.Core.Path.{◌≡◌, refl, sym, ◌∙◌}
+use mathlib.Core.Path.{◌≡◌, refl, ap, sym, ◌∙◌}
 use mathlib.Core.Logic.{⊎_elim}
 use mathlib.Core.Bool.{false, true≢false}
 use mathlib.Core.List.{List}
@@ -9,7 +9,11 @@ use native.Mathlib.Nat.{eq-zero-or-pos}
 use native.Mathlib.Omega.{arith}
 use borrow.Author.Tests.{ne_eqb}
 use lib.ListN.{length}
+use Rattle.std.specs.Prelude.{Result, Ok, Err}
 use Rattle.laws.specs.Outcome.{Gives}
+use Rattle.refusals.specs.Numbers.{number_of, number_in, refusal_of}
+use Rattle.refusals.specs.declared.refusal.Refusal.{Refusal}
+use Rattle.refusals.proofs.Told.{numbers_in_range, refusal_is, not_none}
 use Rattle.records.specs.Map.{records_of}
 use Rattle.banks.specs.Rules.{check_number}
 use Rattle.banks.specs.Facts.{Stands}
@@ -59,42 +63,59 @@ one_check map image store s Entry.PowerOn =
     (eq-zero-or-pos n)
 one_check map image store s Entry.Broken = refl
 
--- what the check's number says of a record's step
-module _ (map image store : List ℕ) (s : State) (e : Entry) (n : ℕ)
-    (checked : n ≡ power_number map store (length image) s) where
-  -- not 0: the public call would refuse with it
-  pub turn_refused : is_broken e ≡ false → (n ≡ 0 → ⊥) → (r : Stepped) → r ≡ refusing s n
-      → Gives r store (turn_of map image store s e)
+-- what the check says of a record's step
+module _ (map image store : List ℕ) (s : State) (e : Entry) (said : Result Unit Refusal)
+    (checked : number_in said ≡ power_number map store (length image) s) where
+  -- a refusal: the public call would refuse with it
+  pub turn_refused : is_broken e ≡ false → (refusal : Refusal) → said ≡ Err refusal → (r : Stepped)
+      → r ≡ refusing s refusal → Gives r store (turn_of map image store s e)
   unfolding turn_of step_of power_on_of
-  turn_refused known some r q = go e known
+  turn_refused known refusal f r q = go e known
     where
+      n : ℕ
+      n = power_number map store (length image) s
+
+      w : number_of refusal ≡ n
+      w = ap number_in (sym f) ∙ checked
+
       step_number_lem : (heard : Heard) → step_number map store (length image) s heard ≡ n
-      step_number_lem heard = (tests_in_order map store (length image)).step_powered s heard (omega arith) ∙ sym checked
+      step_number_lem heard =
+          (tests_in_order map store (length image)).step_powered s heard (omega (arith, w, (numbers_in_range refusal).0))
+
+      same : r ≡ refusing s (refusal_of n)
+      same = q ∙ ap (refusing s) (refusal_is refusal n w)
 
       go : (e : Entry) → is_broken e ≡ false → Gives r store (turn_of map image store s e)
       go (Entry.Frame clock frame) k =
-          rw (step_number_lem (heard_at clock frame), ne_eqb n 0 some) (record { answer = q; store = refl })
-      go Entry.PowerOn k = rw (← checked, ne_eqb n 0 some) (record { answer = q; store = refl })
+          rw (step_number_lem (heard_at clock frame), ne_eqb n 0 (not_none refusal n w)) (record { answer = same; store = refl })
+      go Entry.PowerOn k = rw (ne_eqb n 0 (not_none refusal n w)) (record { answer = same; store = refl })
       go Entry.Broken k = absurd (true≢false k)
 
-  -- 0: it would do what is done
-  pub stands_there : n ≡ 0 → Stands map store (length image)
-  stands_there z = stands map store (length image) (check_passed map store (length image) s (sym checked ∙ z))
+  -- none: it would do what is done
+  module _ (f : said ≡ Ok tt) where
+    passed : power_number map store (length image) s ≡ 0
+    passed = sym checked ∙ ap number_in f
 
-  pub turn_powers : e ≡ Entry.PowerOn → n ≡ 0 → turn_of map image store s e ≡ power_step (records_of map) store image s
-  unfolding turn_of
-  turn_powers q z = rw q ((calls_accepted map store image).power_on s (sym checked ∙ z))
+    pub stands_there : Stands map store (length image)
+    stands_there = stands map store (length image) (check_passed map store (length image) s passed)
 
-  -- and a frame then goes by the number of what is heard
-  module _ (clock frame : ℕ) (q : e ≡ Entry.Frame clock frame) (z : n ≡ 0) (heard : Heard)
-      (h : heard ≡ heard_at clock frame) (m : ℕ) (k : m ≡ heard_number map store s heard) where
-    step_is : step_number map store (length image) s heard ≡ m
-    step_is = (tests_in_order map store (length image)).step_heard s heard (sym checked ∙ z) ∙ sym k
-
-    pub turn_unheard : (m ≡ 0 → ⊥) → (r : Stepped) → r ≡ refusing s m → Gives r store (turn_of map image store s e)
-    unfolding turn_of step_of
-    turn_unheard some r p = rw (q, ← h, step_is, ne_eqb m 0 some) (record { answer = p; store = refl })
-
-    pub turn_hears : m ≡ 0 → turn_of map image store s e ≡ frame_step (records_of map) store image s heard
+    pub turn_powers : e ≡ Entry.PowerOn → turn_of map image store s e ≡ power_step (records_of map) store image s
     unfolding turn_of
-    turn_hears y = rw (q, ← h) ((calls_accepted map store image).step s heard (step_is ∙ y))
+    turn_powers q = rw q ((calls_accepted map store image).power_on s passed)
+
+    -- and a frame then goes by what is said of what is heard
+    module _ (clock frame : ℕ) (q : e ≡ Entry.Frame clock frame) (heard : Heard) (h : heard ≡ heard_at clock frame) where
+      step_is : step_number map store (length image) s heard ≡ heard_number map store s heard
+      step_is = (tests_in_order map store (length image)).step_heard s heard passed
+
+      pub turn_unheard : (refusal : Refusal) → number_of refusal ≡ heard_number map store s heard → (r : Stepped)
+          → r ≡ refusing s refusal → Gives r store (turn_of map image store s e)
+      unfolding turn_of step_of
+      turn_unheard refusal w r p =
+          rw (q, ← h, step_is, ne_eqb _ 0 (not_none refusal _ w))
+          (record { answer = p ∙ ap (refusing s) (refusal_is refusal _ w); store = refl })
+
+      pub turn_hears : 0 ≡ heard_number map store s heard
+          → turn_of map image store s e ≡ frame_step (records_of map) store image s heard
+      unfolding turn_of
+      turn_hears y = rw (q, ← h) ((calls_accepted map store image).step s heard (step_is ∙ sym y))

@@ -1,6 +1,6 @@
 -- One slice more: what a run and what is kept leave of it.
 -- Assumes nothing.
-use Prim.Native.Nat.{ℕ, ◌-◌, ◌*◌, ◌/◌, ◌≤◌}
+use Prim.Native.Nat.{ℕ, ◌*◌, ◌/◌, ◌≤◌}
 use mathlib.Core.Path.{◌≡◌, refl, ap, sym, ◌∙◌}
 use mathlib.Core.Bool.{Bool, not}
 use mathlib.Core.List.{List, ◌++◌}
@@ -46,10 +46,10 @@ module _ (map image : List ℕ) (flow : Flow) (store input : List ℕ) (filled :
       (all_room (length (take filled input)) (length output)
       (rw (length-take-le filled input h.inside) h.room))
 
-  -- the slice is lent as a part of the input, from 0 on
+  -- the slice is lent as the first part of the input
   pub goes_on : (ran : Ran) (after answers left : List ℕ) (kept : ℕ) (unfinished more : Bool)
       → Runs ran after answers output
-      (over (take (filled - 0) input) (room_for (length (take (filled - 0) input)) (length output)))
+      (over (take filled input) (room_for (length (take filled input)) (length output)))
       → length answers ≡ length output → KeepsRest kept input left filled
       → unfinished ≡ unfinished_of kept ran.ended → more ≡ more_of flow.kept filled ran.ended
       → GoOnPromise map image flow
@@ -65,8 +65,7 @@ module _ (map image : List ℕ) (flow : Flow) (store input : List ℕ) (filled :
   unfolding continued
   goes_on ran after answers left kept unfinished more q l k u m =
       let t = traced_of map image store flow.state (whole_entries (take filled input)) in
-      let from-0 : filled - 0 ≡ filled = omega arith in
-      let r : Runs ran after answers output t = rw (from-0, whole_run) at q in
+      let r : Runs ran after answers output t = rw whole_run at q in
       let n : 4 * ran.count ≡ length t.output =
       answers_are map image store flow.state (whole_entries (take filled input)) ran.count r.count in
       record {

@@ -2,18 +2,17 @@
 -- Assumes nothing.
 use Prim.Native.Nat.{ℕ, ◌+◌, ◌-◌, ◌*◌, ◌/◌, ◌≤◌, ◌<◌}
 use mathlib.Core.Path.{◌≡◌, refl, ap, sym, ◌∙◌}
-use mathlib.Core.Bool.{Bool, true, false, not, ◌&&◌}
+use mathlib.Core.Logic.{◌⊎◌, inl, inr}
+use mathlib.Core.Bool.{Bool, true, false}
 use mathlib.Core.List.{List, [], ◌∷◌, ◌++◌}
 use native.Mathlib.Omega.{arith}
-use borrow.Author.Tests.{ltb-true, ltb-false}
-use lib.Dec.{ltb}
 use lib.ListN.{length, take, drop, take-append-drop}
 use lib.Seq.{length-take-le, drop-drop}
 use Rattle.laws.specs.Lists.{items}
 use Rattle.laws.specs.Outcome.{Gives}
 use Rattle.laws.specs.Parts.{put}
 use Rattle.laws.proofs.Items.{items_start, items_end, items_cons}
-use Rattle.laws.proofs.Tests.{if_lt, both, denied, not_denied}
+use Rattle.laws.proofs.Tests.{if_lt}
 use Rattle.rooms.specs.Reply.{refusing}
 use Rattle.rooms.specs.declared.state.State.{State}
 use Rattle.rooms.specs.declared.reply.Stepped.{Stepped}
@@ -105,10 +104,6 @@ room_there records output n e =
     (if_lt (λ m. (8 * m ≤ records) × (4 * m ≤ output)) (output / 4) (records / 8)
     (λ h. (omega arith, omega arith)) (λ h. (omega arith, omega arith)))
 
--- a turn is taken: there is a record more
-pub one_left : (r : Ran) (n : ℕ) → (ltb r.count n && not r.ended) ≡ true → r.count < n
-one_left r n h = ltb-true r.count n (both (ltb r.count n) (not r.ended) h).0
-
 -- what holds from turn to turn
 pub record Goes (map image records stored before store output : List ℕ) (s : State) (n number : ℕ) (r : Ran)
     : Type 0 where
@@ -146,23 +141,21 @@ module _ (map image records stored before : List ℕ) (s : State) (n number : �
   module _ (store output : List ℕ) (r : Ran)
       (goes : Goes map image records stored before store output s n number r) where
     -- a turn may begin
-    pub begins : (ltb r.count n && not r.ended) ≡ true → Begins r map store image records output number
-    begins h =
-        let more = one_left r n h in
+    pub begins : r.count < n → r.ended ≡ false → Begins r map store image records output number
+    begins more on =
         record {
           record_there = omega (arith, goes.records_there);
           room_there = omega (arith, goes.room, goes.output_as_long);
-          goes_on = denied r.ended (both (ltb r.count n) (not r.ended) h).1;
+          goes_on = on;
           checked = goes.checked;
         }
 
     -- and is one nearer to the end
-    pub goes_again : (ltb r.count n && not r.ended) ≡ true → (next : Ran) (after written : List ℕ)
+    pub goes_again : r.count < n → (next : Ran) (after written : List ℕ)
         → Turns r next map store after image records output written number
         → length after ≡ length store → length written ≡ length output
         → Goes map image records stored before after written s n number next
-    goes_again h next after written t a w =
-        let more = one_left r n h in
+    goes_again more next after written t a w =
         let one = t.one_more in
         let four : 4 * next.count ≡ 4 * r.count + 4 = omega arith in
         record {
@@ -183,26 +176,21 @@ module _ (map image records stored before : List ℕ) (s : State) (n number : �
               ∙ ap (λ (k : ℕ). continued map image (so_far next after written) (from k)) (sym one);
         }
 
-    -- at the end what is written so far is the whole run
-    finished : (more : Bool) → ltb r.count n ≡ more → (more && not r.ended) ≡ false
-        → traced_of map image stored s (entries records n) ≡ so_far r store output
+    -- behind the last record, or where 13 has ended it, what is written so far is the whole run
+    over : (n ≤ r.count) ⊎ (r.ended ≡ true) → traced_of map image stored s (entries records n) ≡ so_far r store output
     unfolding so_far
-    finished true e h =
+    over (inl all) =
         goes.whole
-        ∙ continued_ended map image (so_far r store output) (from r.count) (not_denied r.ended h)
-    finished false e h =
-        goes.whole
-        ∙ ap (continued map image (so_far r store output))
-        (items_end (entry_at records) r.count n (ltb-false r.count n e))
+        ∙ ap (continued map image (so_far r store output)) (items_end (entry_at records) r.count n all)
         ∙ continued_none map image (so_far r store output)
+    over (inr ended) = goes.whole ∙ continued_ended map image (so_far r store output) (from r.count) ended
 
-    pub ran : (ltb r.count n && not r.ended) ≡ false
-        → Runs r store output before (traced_of map image stored s (entries records n))
+    pub ran : (n ≤ r.count) ⊎ (r.ended ≡ true) → Runs r store output before (traced_of map image stored s (entries records n))
     unfolding so_far
-    ran h =
+    ran end =
         let there : 4 * r.count ≤ length output = omega (arith, goes.within, goes.room, goes.output_as_long) in
         let long = length-take-le (4 * r.count) output there in
-        rw (finished (ltb r.count n) refl h)
+        rw (over end)
         (record {
           state = refl;
           ended = refl;

@@ -1,21 +1,21 @@
--- Four bytes of an output: put one by one, and the output before and behind them.
+-- Bytes put into an output, and the output before and behind them.
 -- Assumes nothing.
-use Prim.Native.Nat.{ℕ, suc, ◌+◌, ◌≤◌}
-use mathlib.Core.Path.{◌≡◌, ◌∙◌, ap}
-use mathlib.Core.List.{List, [], ◌∷◌, ◌++◌}
+use Prim.Native.Nat.{ℕ, ◌+◌, ◌≤◌}
+use mathlib.Core.Path.{◌≡◌, ◌∙◌, sym, ap}
+use mathlib.Core.List.{List, ◌++◌, append_assoc}
 use native.Mathlib.Omega.{arith}
-use lib.ListN.{length, take, drop, set, length-append}
-use lib.Seq.{sets-eq, take_at, drop_at, length-take-le}
+use lib.ListN.{length, take, drop, length-append}
+use borrow.Rule.Slice.PartMut.{put_mid}
+use lib.Seq.{sets-eq, drop-drop, take_at, drop_at, length-take-le}
 use Rattle.laws.specs.Parts.{put}
 
-pub four_put : (s : List ℕ) (at a b c d : ℕ)
-    → set (set (set (set s at a) (at + 1) b) (at + 2) c) (at + 3) d ≡ put at (a ∷ b ∷ c ∷ d ∷ []) s
+-- a part that was lent comes back with other bytes: they are put there
+pub put_back : (at k : ℕ) (bytes ys s : List ℕ) → k ≡ length bytes → ys ≡ bytes → at + length bytes ≤ length s
+    → put_mid at k s ys ≡ put at bytes s
 unfolding put
-four_put s at a b c d =
-    let one : at + 1 ≡ suc at = omega arith in
-    let two : at + 2 ≡ suc (suc at) = omega arith in
-    let three : at + 3 ≡ suc (suc (suc at)) = omega arith in
-    rw (one, two, three)
+put_back at k bytes ys s e y h =
+    rw (y, e, drop-drop (length bytes) at s)
+    (sym (sets-eq bytes s at h ∙ append_assoc (take at s) bytes (drop (at + length bytes) s)))
 
 module _ (at : ℕ) (bytes s : List ℕ) (h : at + length bytes ≤ length s) where
   long : length (take at s ++ bytes) ≡ at + length bytes

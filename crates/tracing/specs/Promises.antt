@@ -122,8 +122,8 @@ RunPromise map store image s records before r left output =
 abbrev pub WhoOfPromise : List ℕ → Who → Type 0
 WhoOfPromise adr r = r ≡ who_of adr
 
-abbrev pub NumberOfFilesPromise : List ℕ → List ℕ → List ℕ → List ℕ → ℕ → Type 0
-NumberOfFilesPromise map store image adr r = r ≡ file_number map store (length image) adr
+abbrev pub CheckFilesPromise : List ℕ → List ℕ → List ℕ → List ℕ → ℕ → Type 0
+CheckFilesPromise map store image adr r = r ≡ file_number map store (length image) adr
 
 -- ---- results meeting the same promise are equal
 
@@ -139,4 +139,4 @@ abbrev pub WhoSettled : Type 0
 WhoSettled = (adr : List ℕ) → Settles (WhoOfPromise adr)
 
 abbrev pub FilesSettled : Type 0
-FilesSettled = (map store image adr : List ℕ) → Settles (NumberOfFilesPromise map store image adr)
+FilesSettled = (map store image adr : List ℕ) → Settles (CheckFilesPromise map store image adr)

@@ -8,6 +8,7 @@ use rooms::State;
 // Between two reads: the state; how many bytes of an unfinished record wait at the front of the input; how many records
 // of the last slice were answered; whether 13 ended the input; whether an unfinished record is left, which is 13 if no
 // more comes; and whether more is to be read.
+// Kept: none of the three says whether a value beside it is there; what may not change: `tracing:GoOnPromise` names each.
 #[derive(Clone, Copy)]
 pub struct Flow {
     pub state: State,
@@ -24,7 +25,7 @@ pub fn begin(state: State) -> Flow
     ensures { result ≡ begun_flow state }
 {
     Flow {
-        state: state,
+        state,
         kept: 0,
         count: 0,
         ended: false,
@@ -35,7 +36,7 @@ pub fn begin(state: State) -> Flow
 
 // Internal: the first `filled` bytes of the input are a slice, in front of it what was kept. Its whole records are run,
 // and what is behind them goes to the front.
-#[tactic(auto, using(crate::proofs::Flowing::goes_on))]
+// Kept: what may not change: GoOnReads speaks of the whole buffer and of how far it is filled, so both are handed in.
 pub fn go_on(
     map: &[u8],
     store: &mut [u8],
@@ -49,13 +50,11 @@ pub fn go_on(
     ensures { GoOnPromise map.now image.now flow result store.old store.new
         input.old input.new filled output.old output.new }
 {
-    let state = flow.state;
-    let ran = run(map, store, image, state, &input[0..filled], output);
-    let after = ran.state;
+    let ran = run(map, store, image, flow.state, &input[..filled], output);
     let kept = entries::keep_rest(input, filled);
     Flow {
-        state: after,
-        kept: kept,
+        state: ran.state,
+        kept,
         count: ran.count,
         ended: ran.ended,
         unfinished: (kept > 0) & !ran.ended,

@@ -5,6 +5,6 @@ mod files; // what a trace starts from
 mod flows; // the input as it is read
 mod runs; // many records, checked once
 
-pub use files::{number_of_files, who_of};
+pub use files::{check_files, who_of};
 pub use flows::{Flow, begin, go_on};
 pub use runs::{Ran, run};

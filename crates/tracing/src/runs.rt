@@ -1,16 +1,20 @@
 // A run of records: map, store, image and state are checked once; then each record's step, and its four bytes.
-ghost use Rattle.std.specs.Prelude.{◌≡◌, ◌+◌, ◌≤◌, length, if◌then◌else◌};
+ghost use Rattle.std.specs.Prelude.{◌≡◌, ◌+◌, ◌≤◌, length};
 ghost use Rattle.laws.specs.Outcome.{Gives};
 ghost use Rattle.laws.specs.Parts.{put};
+ghost use Rattle.refusals.specs.Numbers.{number_in};
 ghost use Rattle.numbers.specs.Numbers.{power_number};
 ghost use Rattle.unit.specs.Run.{output_of};
-ghost use Rattle.tracing.specs.Run.{turn_of, Begins, Turns, room_for};
+ghost use Rattle.tracing.specs.Run.{turn_of, or_refusing, Begins, Turns, room_for};
 ghost use Rattle.tracing.specs.Promises.{RunPromise};
 
+use banks::Stored;
 use entries::{Entry, entry_at, is_broken};
+use refusals::Refusal;
 use rooms::{Reply, State, Stepped, refusing};
 
 // How far a run has come: the state, the records answered, and whether 13 ended it.
+// Kept: state and count stand where 13 ended it too; what may not change: `tracing:RunPromise` names each.
 #[derive(Clone, Copy)]
 pub struct Ran {
     pub state: State,
@@ -18,86 +22,78 @@ pub struct Ran {
     pub ended: bool,
 }
 
-fn zero_or_one(answered: bool) -> u8
-    ensures { result ≡ (if answered then 1 else 0) }
+// Number or 0, answered 0/1, answer or 0, zero.
+#[tactic(auto, unfolding(unit::specs::Run::output_of))]
+fn four_bytes_of(reply: Reply) -> [u8; 4]
+    ensures { result ≡ output_of reply }
 {
-    if answered { 1 } else { 0 }
+    match reply {
+        Ok(None) => [0; 4],
+        Ok(Some(byte)) => [0, 1, byte, 0],
+        Err(refusal) => [refusal.number(), 0, 0, 0],
+    }
 }
 
-// Internal: number or 0, answered 0/1, answer or 0, zero.
-#[tactic(auto, using(crate::proofs::Written::four_put), unfolding(unit::specs::Run::output_of))]
+// Internal: the reply's four bytes, put from place `at` on.
+#[tactic(auto, using(crate::proofs::Written::put_back))]
 fn write_reply(output: &mut [u8], at: usize, reply: Reply)
     requires { at + 4 ≤ length output.old }
     ensures { output.new ≡ put at (output_of reply) output.old }
 {
-    output[at] = reply.number;
-    output[at + 1] = zero_or_one(reply.answered);
-    output[at + 2] = reply.answer;
-    output[at + 3] = 0;
+    output[at..at + 4].copy_from_slice(&four_bytes_of(reply));
 }
 
-// Internal: what the record's public call would do. Its number is known from the one check, but for a frame's own.
+// Internal: what the record's public call would do, or what it refuses with. What a power-on is refused with is known
+// from the one check.
 #[tactic(auto, using(crate::proofs::Checks::turn_refused, crate::proofs::Checks::stands_there, crate::proofs::Checks::turn_powers, crate::proofs::Checks::turn_unheard, crate::proofs::Checks::turn_hears), unfolding(crate::specs::Run::turn_of))]
 fn step_entry(
     map: &[u8],
     store: &mut [u8],
     image: &[u8],
     state: State,
-    number: u8,
+    checked: Result<(), Refusal>,
     entry: Entry,
-) -> Stepped
-    requires { number ≡ power_number map.now store.old (length image.now) state }
-    ensures { Gives result store.new (turn_of map.now image.now store.old state entry) }
+) -> Result<Stepped, Refusal>
+    requires { number_in checked ≡ power_number map.now store.old (length image.now) state }
+    ensures { Gives (or_refusing state result) store.new (turn_of map.now image.now store.old state entry) }
 {
     match entry {
         Entry::Frame(clock, frame) => {
-            if number != 0 {
-                return refusing(state, number);
-            }
+            checked?;
             let heard = hearing::heard_at(clock, frame);
-            let refusal = numbers::heard_number(map, store, state, heard);
-            if refusal != 0 {
-                return refusing(state, refusal);
-            }
-            unit::frame_step(map, store, image, state, heard)
+            numbers::check_heard(Stored { map, store }, state, heard)?;
+            Ok(unit::frame_step(map, store, image, state, heard))
         }
         Entry::PowerOn => {
-            if number != 0 {
-                return refusing(state, number);
-            }
-            unit::power_step(map, store, image, state)
+            checked?;
+            Ok(unit::power_step(map, store, image, state))
         }
-        Entry::Broken => refusing(state, 13),
+        Entry::Broken => Err(Refusal::BrokenRecord),
     }
 }
 
 // Internal: one turn of a run: the next record's step, and its four bytes.
-#[tactic(auto, using(crate::proofs::Turning::turns))]
 fn turn(
     map: &[u8],
     store: &mut [u8],
     image: &[u8],
     ran: Ran,
-    number: u8,
+    checked: Result<(), Refusal>,
     records: &[u8],
     output: &mut [u8],
 ) -> Ran
-    requires { Begins ran map.now store.old image.now records.now output.old number }
+    requires { Begins ran map.now store.old image.now records.now output.old (number_in checked) }
     ensures { Turns ran result map.now store.old store.new image.now
-        records.now output.old output.new number }
+        records.now output.old output.new (number_in checked) }
 {
-    let count = ran.count;
-    let at = 4 * count;
-    let next = count + 1;
-    let before = ran.state;
-    let entry = entry_at(records, count);
-    let stepped = step_entry(map, store, image, before, number, entry);
-    let reply = stepped.reply;
-    write_reply(output, at, reply);
-    let state = stepped.state;
+    let entry = entry_at(records, ran.count);
+    let stepped = step_entry(map, store, image, ran.state, checked, entry).unwrap_or_else(
+        |refusal| refusing(ran.state, refusal),
+    );
+    write_reply(output, 4 * ran.count, stepped.reply);
     Ran {
-        state: state,
-        count: next,
+        state: stepped.state,
+        count: ran.count + 1,
         ended: is_broken(entry),
     }
 }
@@ -106,13 +102,11 @@ fn turn(
 fn room_for(records: usize, output: usize) -> usize
     ensures { result ≡ room_for records output }
 {
-    let whole = records / 8;
-    let room = output / 4;
-    if room < whole { room } else { whole }
+    (records / 8).min(output / 4)
 }
 
 // Runs the whole records, as many as the output has room for.
-#[tactic(auto, using(crate::proofs::Turning::one_left, crate::proofs::Turning::goes_first, crate::proofs::Turning::begins, crate::proofs::Turning::goes_again, crate::proofs::Turning::ran))]
+// Kept: by number: the new form is no plainer: records and output are cut by one count, `ran.count`, which the caller is told.
 pub fn run(
     map: &[u8],
     store: &mut [u8],
@@ -125,14 +119,17 @@ pub fn run(
         output.old result store.new output.new }
 {
     let n = room_for(records.len(), output.len());
-    let number = numbers::power_number(map, store, image, state);
+    let checked = numbers::check_power(map, store, image, state);
     let mut ran = Ran {
-        state: state,
+        state,
         count: 0,
         ended: false,
     };
-    while (ran.count < n) & !ran.ended {
-        ran = turn(map, store, image, ran, number, records, output);
+    for _ in 0..n {
+        if ran.ended {
+            break;
+        }
+        ran = turn(map, store, image, ran, checked, records, output);
     }
     ran
 }

@@ -42,6 +42,7 @@ use Rattle.rooms.specs.declared.due.Due.TheVariants.{Nothing, Becomes, Answers, 
 use Rattle.rooms.proofs.Powered.{powered_who, powered_registers, powered_waiting, powered_door}
 use Rattle.unit.specs.Step.{cleared, raised, written, read_by, done, frame_step, power_step, step_of, power_on_of}
 use Rattle.unit.specs.Step.{start_of}
+use Rattle.unit.specs.Promises.{number_of}
 use Rattle.unit.proofs.Numbers.{calls_accepted, calls_reply}
 use Rattle.unit.proofs.Keeping.{door_staged}
 use Rattle.unit.proofs.Sound.{Sound, start_sound, power_sound, step_sound}
@@ -59,19 +60,19 @@ ready map store image s h =
 
 -- number 0: no test failed, and the outcome is that of the internal step
 module _ (map store image : List ℕ) where
-  pub step_accepted : (s : State) (x : Heard) → (step_of map store image s x).answer.reply.number ≡ 0
+  pub step_accepted : (s : State) (x : Heard) → number_of (step_of map store image s x) ≡ 0
       → Ready map store image s × (step_of map store image s x ≡ frame_step (records_of map) store image s x)
   step_accepted s x e =
       let n = sym ((calls_reply map store image).step s x) ∙ e in
       (ready map store image s (step_sound map store (length image) s x n), (calls_accepted map store image).step s x n)
 
-  pub power_accepted : (s : State) → (power_on_of map store image s).answer.reply.number ≡ 0
+  pub power_accepted : (s : State) → number_of (power_on_of map store image s) ≡ 0
       → Ready map store image s × (power_on_of map store image s ≡ power_step (records_of map) store image s)
   power_accepted s e =
       let n = sym ((calls_reply map store image).power_on s) ∙ e in
       (ready map store image s (power_sound map store (length image) s n), (calls_accepted map store image).power_on s n)
 
-  pub start_accepted : (who : Who) → (start_of map store image who).answer.reply.number ≡ 0
+  pub start_accepted : (who : Who) → number_of (start_of map store image who) ≡ 0
       → Stands map store (length image)
       × (start_of map store image who ≡ power_step (records_of map) store image (with_who zero_state who))
   start_accepted who e =

@@ -6,11 +6,12 @@ use mathlib.Core.Bool.{true, false, ◌&&◌}
 use mathlib.Core.List.{List}
 use borrow.Author.Tests.{eqb-true}
 use lib.Dec.{eqb}
+use Rattle.std.specs.Prelude.{Result, Ok, Err}
 use Rattle.laws.specs.Outcome.{Outcome, leaves}
 use Rattle.laws.proofs.Tests.{both, clash}
+use Rattle.refusals.specs.declared.refusal.Refusal.{Refusal}
 use Rattle.frames.specs.Read.{read_of}
 use Rattle.frames.specs.declared.message.Message.{Message}
-use Rattle.frames.specs.declared.message.Reading.{Reading}
 use Rattle.records.specs.Map.{records_of}
 use Rattle.records.specs.declared.record.Record.{Record}
 use Rattle.hearing.specs.Meaning.{meaning_of, reading_meaning}
@@ -54,12 +55,12 @@ foreign_passes_by rs store image s heard e =
     }
 
 -- an event or a reserved frame is foreign to every unit
-pub no_command_foreign : (who : Who) (r : Reading) → no_command r ≡ true → reading_meaning who r ≡ Foreign
-no_command_foreign who (Reading.Got (Message.Command address target opcode)) e = clash false e refl
-no_command_foreign who (Reading.Got (Message.Special number first second)) e = clash false e refl
-no_command_foreign who (Reading.Got (Message.Event scheme high low information)) e = refl
-no_command_foreign who (Reading.Got (Message.Power group short)) e = refl
-no_command_foreign who (Reading.Refused number) e = refl
+pub no_command_foreign : (who : Who) (r : Result Message Refusal) → no_command r ≡ true → reading_meaning who r ≡ Foreign
+no_command_foreign who (Ok (Message.Command address target opcode)) e = clash false e refl
+no_command_foreign who (Ok (Message.Special number first second)) e = clash false e refl
+no_command_foreign who (Ok (Message.Event scheme high low information)) e = refl
+no_command_foreign who (Ok (Message.Power group short)) e = refl
+no_command_foreign who (Err refusal) e = refl
 
 -- a first half shuts the door and waits; nothing else changes
 pub first_half : (rs : List Record) (store image : List ℕ) (s : State) (heard : Heard) → due_of rs s heard ≡ Waits

@@ -5,13 +5,14 @@ use mathlib.Core.Path.{◌≡◌, refl, ap, ◌∙◌}
 use mathlib.Core.Bool.{Bool, true, false, ◌&&◌}
 use mathlib.Core.List.{List}
 use borrow.Author.Tests.{eq-eqb, ne_eqb}
+use Rattle.std.specs.Prelude.{None, Ok}
 use Rattle.laws.specs.Outcome.{Outcome}
 use Rattle.records.specs.declared.record.Record.{Record}
 use Rattle.memory.specs.Staged.{write_byte}
 use Rattle.hearing.specs.declared.heard.Heard.{Heard}
 use Rattle.rooms.specs.State.{with_who, with_registers, with_waiting, with_door, with_latch}
 use Rattle.rooms.specs.Due.{with_dtr}
-use Rattle.rooms.specs.Reply.{quiet, answering}
+use Rattle.rooms.specs.Reply.{answer_if, quiet, answering}
 use Rattle.rooms.specs.declared.state.Registers.{Registers}
 use Rattle.rooms.specs.declared.state.State.{State}
 use Rattle.rooms.specs.declared.reply.Stepped.{Stepped}
@@ -26,9 +27,9 @@ rooms : Unit {0}
 unfolding with_dtr with_who with_registers with_waiting with_door with_latch
 rooms = tt
 
-no_reply : (taken replying : Bool) → replying ≡ false → (taken && replying) ≡ false
-no_reply true replying e = e
-no_reply false replying e = refl
+no_reply : (taken replying : Bool) (byte : ℕ) → replying ≡ false → answer_if (taken && replying) byte ≡ None
+no_reply true replying byte e = rw e
+no_reply false replying byte e = refl
 
 module _ (rs : List Record) (store image : List ℕ) (s : State) (heard : Heard) where
   -- a frame that closes write-enable or not, and what is due then
@@ -70,7 +71,7 @@ module _ (rs : List Record) (store image : List ℕ) (s : State) (heard : Heard)
         answers = answers;
         writes = λ e bank location byte replying.
             let wrote = write_byte rs store s.door.staged bank location byte in
-            (refl, rises location _ refl, refl, refl, refl, no_reply wrote.answer.taken replying);
+            (refl, rises location _ refl, refl, refl, refl, λ n. ap Ok (no_reply wrote.answer.taken replying byte n));
         reads = λ bank location. (refl, rises location _ refl, refl, refl, refl);
       }
 

@@ -1,13 +1,16 @@
 -- Start, power-on and frame step as calls: settled, with the number of their tests, and refused without a trace.
 -- Assumes nothing.
 use Prim.Native.Nat.{ℕ, ◌<◌}
-use mathlib.Core.Path.{◌≡◌, refl, sym, ◌∙◌}
+use mathlib.Core.Path.{◌≡◌, refl, ap, sym, ◌∙◌}
 use mathlib.Core.List.{List}
 use native.Mathlib.Omega.{arith}
 use borrow.Author.Tests.{eq-eqb, ne_eqb}
+use lib.ListN.{length}
+use Rattle.std.specs.Prelude.{Err}
 use Rattle.laws.specs.Outcome.{Outcome}
 use Rattle.laws.proofs.Settled.{settles_both}
 use Rattle.laws.proofs.Tests.{if_eq}
+use Rattle.refusals.specs.Numbers.{number_of as refusal_number, refusal_of}
 use Rattle.records.specs.Map.{records_of}
 use Rattle.records.specs.declared.record.Record.{Record}
 use Rattle.hearing.specs.declared.heard.Heard.{Heard}
@@ -19,6 +22,7 @@ use Rattle.rooms.specs.declared.reply.Stepped.{Stepped}
 use Rattle.rooms.specs.declared.due.Due.{Due}
 use Rattle.rooms.specs.declared.due.Due.TheVariants.{Nothing, Waits, Opens, Resets, Becomes, Loads, Answers}
 use Rattle.rooms.specs.declared.due.Due.TheVariants.{Writes, Reads}
+use Rattle.numbers.proofs.Behind.{start_refuses, power_refuses, step_refuses}
 use Rattle.unit.specs.Step.{written, read_by, done, frame_step, power_step, unless, step_of, start_of, power_on_of}
 use Rattle.unit.specs.Promises.{number_of, Refuses, CallsSettled, CallsRefused, CallsReply, CallsAccepted}
 
@@ -53,15 +57,24 @@ module _ (s : State) (store : List ℕ) (o : Outcome Stepped) where
   accepting : (n : ℕ) → n ≡ 0 → unless n s store o ≡ o
   accepting n e = rw (eq-eqb n 0 e)
 
-  unless_number : (n : ℕ) → number_of o ≡ 0 → number_of (unless n s store o) ≡ n
-  unfolding refusing
-  unless_number n e = if_eq (λ x. number_of x ≡ n) n 0 (λ z. e ∙ sym z) (λ z. refl)
+  -- a number that is not 0 is its refusal's
+  abbrev Told : ℕ → Type 0
+  Told n = (n ≡ 0 → ⊥) → refusal_number (refusal_of n) ≡ n
 
-  unless_refuses : (m n : ℕ) → 0 < n → m ≡ n → Refuses (unless m s store o) n s store
+  unless_number : (n : ℕ) → Told n → number_of o ≡ 0 → number_of (unless n s store o) ≡ n
   unfolding refusing
-  unless_refuses m n h e =
+  unless_number n t e = if_eq (λ x. number_of x ≡ n) n 0 (λ z. e ∙ sym z) t
+
+  unless_refuses : (m n : ℕ) → Told m → 0 < n → m ≡ n → Refuses (unless m s store o) n s store
+  unfolding refusing
+  unless_refuses m n t h e =
       rw (ne_eqb m 0 (λ z. omega arith))
-      (record { returns = e; unanswered = refl; no_answer = refl; state_stays = refl; store_stays = refl })
+      (record {
+        returns = t (λ z. omega arith) ∙ e;
+        refuses = ap (λ (k : ℕ). Err (refusal_of k)) e;
+        state_stays = refl;
+        store_stays = refl;
+      })
 
 pub calls_accepted : CallsAccepted
 unfolding start_of power_on_of step_of
@@ -76,18 +89,22 @@ pub calls_reply : CallsReply
 unfolding start_of power_on_of step_of power_step quiet
 calls_reply map store image =
     record {
-      start = λ who. unless_number _ store (power_step (records_of map) store image (with_who zero_state who)) _ refl;
-      power_on = λ s. unless_number s store (power_step (records_of map) store image s) _ refl;
+      start = λ who.
+          unless_number _ store (power_step (records_of map) store image (with_who zero_state who)) _
+          (λ z. start_refuses map store (length image) _ z who refl) refl;
+      power_on = λ s.
+          unless_number s store (power_step (records_of map) store image s) _
+          (λ z. power_refuses map store (length image) _ z s refl) refl;
       step = λ s heard.
           unless_number s store (frame_step (records_of map) store image s heard) _
-          (frame_number (records_of map) store image s heard);
+          (λ z. step_refuses map store (length image) _ z s heard refl) (frame_number (records_of map) store image s heard);
     }
 
 pub calls_refused : CallsRefused
 unfolding start_of power_on_of step_of
 calls_refused map store image n h =
     record {
-      start = λ who e. unless_refuses zero_state store _ _ n h e;
-      power_on = λ s e. unless_refuses s store _ _ n h e;
-      step = λ s heard e. unless_refuses s store _ _ n h e;
+      start = λ who e. unless_refuses zero_state store _ _ n (λ z. start_refuses map store (length image) _ z who refl) h e;
+      power_on = λ s e. unless_refuses s store _ _ n (λ z. power_refuses map store (length image) _ z s refl) h e;
+      step = λ s heard e. unless_refuses s store _ _ n (λ z. step_refuses map store (length image) _ z s heard refl) h e;
     }

@@ -10,6 +10,7 @@ use Rattle.hearing.specs.declared.heard.Heard.{Heard}
 use Rattle.hearing.specs.declared.heard.Who.{Who}
 use Rattle.rooms.specs.declared.reply.Stepped.{Stepped}
 use Rattle.unit.specs.Step.{start_of}
+use Rattle.unit.specs.Promises.{number_of}
 use Rattle.unit.specs.Run.{Input, hears, Run, run_of}
 
 -- map, store and image are passed on; address 5, no groups
@@ -61,7 +62,7 @@ pub data Line : Type 0 where
 
 -- the start is accepted, and the run writes the output and leaves the store
 pub record BenchRuns (inputs : List Input) (output store : List ℕ) : Type 0 where
-  pub starts : bench_start.answer.reply.number ≡ 0
+  pub starts : number_of bench_start ≡ 0
   pub writes : (bench_run inputs).output ≡ output
   pub leaves : (bench_run inputs).store ≡ store
 

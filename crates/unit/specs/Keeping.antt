@@ -2,7 +2,7 @@
 -- and a RESET MEMORY BANK put. Paper 01, "Map, store, reset image", "State and clock" and "Commands obeyed". Proved in
 -- proofs/Accepted.antt and proofs/Resets.antt.
 -- Assumes nothing.
-use Rattle.std.specs.Prelude.{ℕ, ◌<◌, ◌≤◌, ◌≡◌, ◌⊎◌, ◌↔◌, Bool, true, false, List, [], ◌∷◌, ltb, length, get_or}
+use Rattle.std.specs.Prelude.{ℕ, ◌<◌, ◌≤◌, ◌≡◌, ◌⊎◌, ◌↔◌, Bool, true, false, List, [], ◌∷◌, None, Ok, ltb, length, get_or}
 use Rattle.laws.specs.Lists.{every}
 use Rattle.laws.specs.Outcome.{Outcome}
 use Rattle.records.specs.Map.{records_of, writable, places_end, mapped}
@@ -72,7 +72,7 @@ pub record StorePowered (map store image after : List ℕ) : Type 0 where
 -- an outcome that is a power-on of a state, with this address and these groups
 pub record PowersOn (map store image : List ℕ) (s : State) (who : Who) (o : Outcome Stepped) : Type 0 where
   pub acts : o ≡ power_step (records_of map) store image s
-  pub unanswered : o.answer.reply.answered ≡ false
+  pub unanswered : o.answer.reply ≡ Ok None
   pub state_is : StatePowered who o.answer.state
   pub store_is : StorePowered map store image o.store
 

@@ -1,11 +1,11 @@
 -- What a frame leaves alone: a foreign one, one between two halves, and each command.
 -- Paper 01, "Commands obeyed". Proved in proofs/Foreign.antt and proofs/Leaving.antt.
 -- Assumes nothing.
-use Rattle.std.specs.Prelude.{ℕ, ◌+◌, ◌≡◌, Bool, true, false, List, if◌then◌else◌}
+use Rattle.std.specs.Prelude.{ℕ, ◌+◌, ◌≡◌, Bool, true, false, List, None, Result, Ok, Err, if◌then◌else◌}
 use Rattle.laws.specs.Outcome.{Outcome, leaves}
+use Rattle.refusals.specs.declared.refusal.Refusal.{Refusal}
 use Rattle.frames.specs.Read.{read_of}
 use Rattle.frames.specs.declared.message.Message.{Message}
-use Rattle.frames.specs.declared.message.Reading.{Reading}
 use Rattle.records.specs.Map.{records_of}
 use Rattle.records.specs.declared.record.Record.{Record}
 use Rattle.hearing.specs.Meaning.{meaning_of, closes}
@@ -35,12 +35,12 @@ ForeignPassesBy = (rs : List Record) (store image : List ℕ) (s : State) (heard
     → meaning_of s.who heard.frame ≡ Foreign → PassesBy rs store image s heard
 
 -- what is read is an event, or a reserved frame: no command
-abbrev pub no_command : Reading → Bool
-no_command (Reading.Got (Message.Command address target opcode)) = false
-no_command (Reading.Got (Message.Special number first second)) = false
-no_command (Reading.Got (Message.Event scheme high low information)) = true
-no_command (Reading.Got (Message.Power group short)) = true
-no_command (Reading.Refused number) = true
+abbrev pub no_command : Result Message Refusal → Bool
+no_command (Ok (Message.Command address target opcode)) = false
+no_command (Ok (Message.Special number first second)) = false
+no_command (Ok (Message.Event scheme high low information)) = true
+no_command (Ok (Message.Power group short)) = true
+no_command (Err refusal) = true
 
 -- the outcome of a frame that is heard after another outcome
 abbrev pub next : List ℕ → List ℕ → Outcome Stepped → Heard → Outcome Stepped
@@ -104,7 +104,7 @@ abbrev pub StoreStays : List ℕ → Outcome Stepped → Type 0
 StoreStays store o = o.store ≡ store
 
 abbrev pub Unanswered : Outcome Stepped → Type 0
-Unanswered o = o.answer.reply.answered ≡ false
+Unanswered o = o.answer.reply ≡ Ok None
 
 -- what each frame leaves alone, by what it makes happen: a room that is not named may differ
 abbrev pub Leaves : State → List ℕ → Heard → Bool → Outcome Stepped → Due → Type 0

@@ -2,8 +2,9 @@
 -- its tests, a refusal changes nothing. Paper 01, "Refusal numbers" and "How the promises are judged".
 -- Proved in proofs/Numbers.antt.
 -- Assumes nothing.
-use Rattle.std.specs.Prelude.{ℕ, ◌<◌, ◌≡◌, false, List, length}
+use Rattle.std.specs.Prelude.{ℕ, ◌<◌, ◌≡◌, Err, List, length}
 use Rattle.laws.specs.Outcome.{Outcome, Gives}
+use Rattle.refusals.specs.Numbers.{number_in, refusal_of}
 use Rattle.records.specs.Map.{records_of}
 use Rattle.hearing.specs.declared.heard.Who.{Who}
 use Rattle.hearing.specs.declared.heard.Heard.{Heard}
@@ -35,7 +36,7 @@ pub record Settled (map store image : List ℕ) : Type 0 where
 
 -- the number in the reply of an outcome
 abbrev pub number_of : Outcome Stepped → ℕ
-number_of o = o.answer.reply.number
+number_of o = number_in o.answer.reply
 
 -- each call's reply has the number of its tests
 pub record Replies (map store image : List ℕ) : Type 0 where
@@ -44,11 +45,11 @@ pub record Replies (map store image : List ℕ) : Type 0 where
   pub step : (s : State) (heard : Heard)
       → number_of (step_of map store image s heard) ≡ step_number map store (length image) s heard
 
--- a refusal returns the number, and no answer; state and store stay, byte for byte
+-- a refusal returns the number, and no answer: it is the refusal with that number, which holds none; state and store
+-- stay, byte for byte
 pub record Refuses (o : Outcome Stepped) (number : ℕ) (s : State) (store : List ℕ) : Type 0 where
   pub returns : number_of o ≡ number
-  pub unanswered : o.answer.reply.answered ≡ false
-  pub no_answer : o.answer.reply.answer ≡ 0
+  pub refuses : o.answer.reply ≡ Err (refusal_of number)
   pub state_stays : o.answer.state ≡ s
   pub store_stays : o.store ≡ store
 

@@ -2,10 +2,11 @@
 -- Assumes nothing.
 use Rattle.std.specs.Prelude.{ℕ, List, [], ◌∷◌, ◌++◌, if◌then◌else◌}
 use Rattle.laws.specs.Outcome.{Outcome}
+use Rattle.refusals.specs.Numbers.{number_in}
 use Rattle.hearing.specs.declared.heard.Who.{Who}
 use Rattle.hearing.specs.declared.heard.Heard.{Heard}
 use Rattle.rooms.specs.declared.state.State.{State}
-use Rattle.rooms.specs.declared.reply.Reply.{Reply}
+use Rattle.rooms.specs.Reply.{Reply, answered, answer_byte}
 use Rattle.rooms.specs.declared.reply.Stepped.{Stepped}
 use Rattle.unit.specs.Step.{step_of, power_on_of, start_of}
 
@@ -20,7 +21,7 @@ input_of map image store s (hears heard) = step_of map store image s heard
 
 -- per record four bytes: number or 0, answered 0/1, answer or 0, zero
 unfoldable pub output_of : Reply → List ℕ
-output_of reply = reply.number ∷ (if reply.answered then 1 else 0) ∷ reply.answer ∷ 0 ∷ []
+output_of reply = number_in reply ∷ (if answered reply then 1 else 0) ∷ answer_byte reply ∷ 0 ∷ []
 
 pub record Run : Type 0 where
   pub output : List ℕ

@@ -1,7 +1,8 @@
 -- A frame step, a power-on, a start: what each leaves and answers. Paper 01, "State and clock" and "Commands obeyed".
 -- Assumes nothing.
-use Rattle.std.specs.Prelude.{ℕ, ◌+◌, Bool, true, ◌&&◌, List, eqb, length, if◌then◌else◌}
+use Rattle.std.specs.Prelude.{ℕ, ◌+◌, Bool, ◌&&◌, List, Some, eqb, length, if◌then◌else◌}
 use Rattle.laws.specs.Outcome.{Outcome, leaves}
+use Rattle.refusals.specs.Numbers.{refusal_of}
 use Rattle.records.specs.Map.{records_of}
 use Rattle.records.specs.declared.record.Record.{Record}
 use Rattle.memory.specs.Staged.{write_byte}
@@ -15,7 +16,7 @@ use Rattle.hearing.specs.Pairs.{none_waits, waits_for}
 use Rattle.hearing.specs.declared.heard.Who.{Who}
 use Rattle.hearing.specs.declared.heard.Heard.{Heard}
 use Rattle.rooms.specs.State.{with_who, with_registers, with_waiting, with_door, with_latch, shut_door, open_door}
-use Rattle.rooms.specs.Reply.{quiet, answering, refusing}
+use Rattle.rooms.specs.Reply.{answer_if, quiet, answering, refusing}
 use Rattle.rooms.specs.State.{powered_on, zero_state}
 use Rattle.rooms.specs.Due.{with_dtr, due_of}
 use Rattle.rooms.specs.declared.state.State.{State}
@@ -39,12 +40,12 @@ unfoldable pub written : State → ℕ → ℕ → Bool → Outcome Wrote → Ou
 written s location byte replying o =
     leaves
     (answering (with_door (raised s location) (record { enabled = s.door.enabled; staged = o.answer.staged }))
-    (o.answer.taken && replying) byte)
+    (answer_if (o.answer.taken && replying) byte))
     o.store
 
 -- answer the byte, or none if the location is unmapped; DTR0 rises unless 0xFF
 unfoldable pub read_by : State → ℕ → Shown → Stepped
-read_by s location shown = answering (with_latch (raised s location) shown.latch) shown.answered shown.answer
+read_by s location shown = answering (with_latch (raised s location) shown.latch) shown.answer
 
 -- what is due is done
 unfoldable pub done : List Record → List ℕ → List ℕ → State → Heard → Due → Outcome Stepped
@@ -54,7 +55,7 @@ done rs store image s heard Opens = leaves (quiet (with_door s open_door)) store
 done rs store image s heard (Resets dtr0) = leaves (quiet s) (filled_of rs store image (Reset dtr0))
 done rs store image s heard (Becomes who) = leaves (quiet (with_who s who)) store
 done rs store image s heard (Loads registers) = leaves (quiet (with_registers s registers)) store
-done rs store image s heard (Answers byte) = leaves (answering s true byte) store
+done rs store image s heard (Answers byte) = leaves (answering s (Some byte)) store
 done rs store image s heard (Writes bank location byte replying) =
     written s location byte replying (write_byte rs store s.door.staged bank location byte)
 done rs store image s heard (Reads bank location) =
@@ -71,7 +72,7 @@ power_step rs store image s = leaves (quiet (powered_on s)) (filled_of rs store 
 
 -- a refusal returns the number; state and store stay
 abbrev pub unless : ℕ → State → List ℕ → Outcome Stepped → Outcome Stepped
-unless number s store outcome = if eqb number 0 then outcome else leaves (refusing s number) store
+unless number s store outcome = if eqb number 0 then outcome else leaves (refusing s (refusal_of number)) store
 
 unfoldable pub step_of : List ℕ → List ℕ → List ℕ → State → Heard → Outcome Stepped
 step_of map store image s heard =

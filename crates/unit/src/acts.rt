@@ -7,23 +7,26 @@ ghost use Rattle.memory.specs.Staged.{write_byte};
 ghost use Rattle.memory.specs.Latched.{read_byte};
 ghost use Rattle.unit.specs.Step.{cleared, raised, written, read_by, done};
 
+use banks::Stored;
 use hearing::Heard;
 use memory::Filling;
 use rooms::{
-    Door, Due, State, Stepped, answering, open_door, quiet, shut_door, with_door, with_dtr,
-    with_latch, with_registers, with_waiting, with_who,
+    Door, Due, State, Stepped, answering, empty_door, quiet, with_door, with_dtr, with_latch,
+    with_registers, with_waiting, with_who,
 };
 
 // Any frame clears the waiting one; what closes write-enable drops staging.
+// Kept: what may not change: `unit:cleared` takes whether it closes, as `hearing:closes` answers it.
 #[tactic(auto, unfolding(rooms::specs::State::with_door, rooms::specs::State::with_waiting, crate::specs::Step::cleared))]
 pub fn hear(state: State, closing: bool) -> State
     ensures { result ≡ cleared state closing }
 {
     let none_waiting = with_waiting(state, hearing::none_waits());
     if closing {
-        return with_door(none_waiting, shut_door());
+        with_door(none_waiting, empty_door(false))
+    } else {
+        none_waiting
     }
-    none_waiting
 }
 
 // DTR0 rises by one unless 0xFF.
@@ -31,14 +34,12 @@ pub fn hear(state: State, closing: bool) -> State
 fn raise(state: State, location: u8) -> State
     ensures { result ≡ raised state location }
 {
-    let registers = state.registers;
-    if location == 0xFF {
-        return with_registers(state, with_dtr(registers, 0, 0xFF));
-    }
-    with_registers(state, with_dtr(registers, 0, location + 1))
+    let next = location.saturating_add(1);
+    with_registers(state, with_dtr(state.registers, 0, next))
 }
 
 // Internal: an executed write.
+// Kept: map and store apart, for the reason at `memory::write_byte`; seven parameters, four of them as `Due::Writes` hands them on.
 #[tactic(auto, unfolding(crate::specs::Step::written))]
 fn write_at(
     map: &[u8],
@@ -53,39 +54,33 @@ fn write_at(
     ensures { Gives result store.new (written state location byte replying
         (write_byte (records_of map.now) store.old state.door.staged bank location byte)) }
 {
-    let door = state.door;
-    let staged = door.staged;
-    let wrote = memory::write_byte(map, store, staged, bank, location, byte);
-    let left = wrote.staged;
-    let after = Door {
-        enabled: door.enabled,
-        staged: left,
+    let wrote = memory::write_byte(map, store, state.door.staged, bank, location, byte);
+    let door = Door {
+        staged: wrote.staged,
+        ..state.door
     };
     answering(
-        with_door(raise(state, location), after),
-        wrote.taken & replying,
-        byte,
+        with_door(raise(state, location), door),
+        (wrote.taken && replying).then_some(byte),
     )
 }
 
-// Internal: a READ in a mapped bank.
+// A READ in a mapped bank.
 #[tactic(auto, unfolding(crate::specs::Step::read_by))]
-fn read_at(map: &[u8], store: &[u8], state: State, bank: u8, location: u8) -> Stepped
-    requires { placed map.now (length store.now) ≡ true }
+fn read_at(stored: Stored<'_>, state: State, bank: u8, location: u8) -> Stepped
     ensures { result ≡ read_by state location
-        (read_byte (records_of map.now) store.now state.latch bank location) }
+        (read_byte (records_of stored.entry.map.now) stored.entry.store.now state.latch bank location) }
 {
-    let latch = state.latch;
-    let shown = memory::read_byte(map, store, latch, bank, location);
-    let after = shown.latch;
+    let shown = memory::read_byte(stored, state.latch, bank, location);
     answering(
-        with_latch(raise(state, location), after),
-        shown.answered,
+        with_latch(raise(state, location), shown.latch),
         shown.answer,
     )
 }
 
 // Internal: what is due. Map, store and image have passed 7 to 10.
+// Kept: map and store apart, for the reason at `memory::write_byte`; and what may not change: the match is the paper's list of what a
+// frame makes happen, an arm for each case of `done`.
 #[tactic(auto, unfolding(crate::specs::Step::done))]
 pub fn act(
     map: &[u8],
@@ -102,17 +97,17 @@ pub fn act(
     match due {
         Due::Nothing => quiet(state),
         Due::Waits => quiet(with_waiting(state, hearing::waits_for(heard))),
-        Due::Opens => quiet(with_door(state, open_door())),
+        Due::Opens => quiet(with_door(state, empty_door(true))),
         Due::Resets(dtr0) => {
             memory::fill_store(map, store, image, Filling::Reset(dtr0));
             quiet(state)
         }
         Due::Becomes(who) => quiet(with_who(state, who)),
         Due::Loads(registers) => quiet(with_registers(state, registers)),
-        Due::Answers(byte) => answering(state, true, byte),
+        Due::Answers(byte) => answering(state, Some(byte)),
         Due::Writes(bank, location, byte, replying) => {
             write_at(map, store, state, bank, location, byte, replying)
         }
-        Due::Reads(bank, location) => read_at(map, store, state, bank, location),
+        Due::Reads(bank, location) => read_at(Stored { map, store }, state, bank, location),
     }
 }

@@ -5,18 +5,18 @@ use Prim.Native.Nat.{ℕ, ◌+◌, ◌-◌, ◌*◌, ◌^◌, ◌<◌}
 use native.Mathlib.Omega.{arith}
 use lib.Dec.{lit≤, lit<}
 use borrow.Author.Tests.{eq-eqb}
+use Rattle.std.specs.Prelude.{Option, Some, None, Result, Ok, Err}
 use Rattle.laws.specs.Bits.{bits}
 use Rattle.laws.proofs.Tests.{if_eq}
 use Rattle.laws.proofs.Bits.{above_all, above_none, cut, small, bits_is}
+use Rattle.refusals.specs.declared.refusal.Refusal.{Refusal}
+use Rattle.refusals.specs.declared.refusal.Refusal.TheVariants.{OutOfRange}
 use Rattle.frames.specs.Values.{target_number, target_at, scheme_at, field_present, field_value}
 use Rattle.frames.specs.Read.{aimed}
 use Rattle.frames.specs.declared.message.Address.{Address}
-use Rattle.frames.specs.declared.message.Field.{Field}
 use Rattle.frames.specs.declared.message.Message.{Message}
-use Rattle.frames.specs.declared.message.Reading.{Reading}
 use Rattle.frames.specs.declared.message.Scheme.{Scheme}
 use Rattle.frames.specs.declared.message.Target.{Target}
-use Rattle.frames.specs.declared.message.Targeted.{Targeted}
 use Rattle.words.specs.Values.{address_kind, address_number, address_at, target_kind, scheme_number, field_at}
 use Rattle.words.specs.Word.{six_bytes, word_of, message_at, matched, message_of}
 use Rattle.words.specs.Promises.{Held, WordGives, GivesWord, NoMessage, WordRefused, LowByte}
@@ -29,7 +29,7 @@ address_at_lem (Address.Group n) = (refl, lit< tt)
 address_at_lem Address.Unaddressed = (refl, lit< tt)
 address_at_lem Address.Broadcast = (refl, lit< tt)
 
-target_at_lem : (t : Target) → (target_at (target_kind t) (target_number t) ≡ Targeted.At t) × (target_kind t < 256)
+target_at_lem : (t : Target) → (target_at (target_kind t) (target_number t) ≡ Some t) × (target_kind t < 256)
 unfolding target_at
 target_at_lem (Target.InstanceNumber n) = (refl, lit< tt)
 target_at_lem (Target.InstanceGroup n) = (refl, lit< tt)
@@ -43,14 +43,14 @@ target_at_lem Target.FeatureAtInstanceBroadcast = (refl, lit< tt)
 target_at_lem Target.Device = (refl, lit< tt)
 target_at_lem Target.InstanceBroadcast = (refl, lit< tt)
 
-field_at_lem : (x : Field) → (field_at (field_present x) (field_value x) ≡ x) × (field_present x < 256)
+field_at_lem : (x : Option ℕ) → (field_at (field_present x) (field_value x) ≡ x) × (field_present x < 256)
 unfolding field_at
-field_at_lem Field.Blank = (refl, lit< tt)
-field_at_lem (Field.Holds v) = (refl, lit< tt)
+field_at_lem None = (refl, lit< tt)
+field_at_lem (Some v) = (refl, lit< tt)
 
 -- the event of each scheme is that of its kind
 event_at : (s : Scheme) (x y c d e : ℕ) →
-    (message_at (2 + scheme_number s) x y c d e ≡ Reading.Got (Message.Event s x y (c * 256 + d)))
+    (message_at (2 + scheme_number s) x y c d e ≡ Ok (Message.Event s x y (c * 256 + d)))
     × (2 + scheme_number s < 256)
 unfolding message_at scheme_at
 event_at Scheme.TypeNumber x y c d e = (refl, lit< tt)
@@ -60,13 +60,13 @@ event_at Scheme.GroupType x y c d e = (refl, lit< tt)
 event_at Scheme.PrimaryType x y c d e = (refl, lit< tt)
 
 -- a message whose word is a sum of bytes, and which is the message of those bytes, is given back
-gives : (m : Message) (k a b c d e f : ℕ) → word_of (Reading.Got m) ≡ k * 2 ^ 48 + six_bytes a b c d e f →
+gives : (m : Message) (k a b c d e f : ℕ) → word_of (Ok m) ≡ k * 2 ^ 48 + six_bytes a b c d e f →
     k < 256 → a < 256 → b < 256 → c < 256 → d < 256 → e < 256 → f < 256 →
-    message_at k a b c d e ≡ Reading.Got m → message_of (word_of (Reading.Got m)) ≡ Reading.Got m
+    message_at k a b c d e ≡ Ok m → message_of (word_of (Ok m)) ≡ Ok m
 unfolding message_of six_bytes
-gives m k a b c d e f sum hk ha hb hc hd he hf at = go (word_of (Reading.Got m)) refl sum
+gives m k a b c d e f sum hk ha hb hc hd he hf at = go (word_of (Ok m)) refl sum
   where
-    go : (w : ℕ) → word_of (Reading.Got m) ≡ w → w ≡ k * 2 ^ 48 + six_bytes a b c d e f → message_of w ≡ Reading.Got m
+    go : (w : ℕ) → word_of (Ok m) ≡ w → w ≡ k * 2 ^ 48 + six_bytes a b c d e f → message_of w ≡ Ok m
     go w own eq =
         simp (
           bits_is w 55 48 0 k (w - k * 2 ^ 48) (omega arith) hk (omega arith),
@@ -76,7 +76,7 @@ gives m k a b c d e f sum hk ha hb hc hd he hf at = go (word_of (Reading.Got m))
           bits_is w 23 16 (k * 2 ^ 24 + a * 2 ^ 16 + b * 256 + c) d (e * 2 ^ 8 + f) (omega arith) hd (omega arith),
           bits_is w 15 8 (k * 2 ^ 32 + a * 2 ^ 24 + b * 2 ^ 16 + c * 256 + d) e f (omega arith) he (omega arith),
           at,
-          eq-eqb (word_of (Reading.Got m)) w own,
+          eq-eqb (word_of (Ok m)) w own,
         )
 
 -- the information is its two bytes
@@ -96,7 +96,7 @@ word_gives (Message.Event s x y i) h =
     let e = event_at s x y (bits i 15 8) (bits i 7 0) 0 in
     gives (Message.Event s x y i) (2 + scheme_number s) x y (bits i 15 8) (bits i 7 0) 0 0 refl
     e.1 h.0 h.1 (small i 15 8) (small i 7 0) (lit< tt) (lit< tt)
-    (e.0 ∙ ap (λ (n : ℕ). Reading.Got (Message.Event s x y n)) (two_bytes i h.2))
+    (e.0 ∙ ap (λ (n : ℕ). Ok (Message.Event s x y n)) (two_bytes i h.2))
 word_gives (Message.Power g s) h =
     let x = field_at_lem g in
     let y = field_at_lem s in
@@ -104,13 +104,13 @@ word_gives (Message.Power g s) h =
     (lit< tt) x.1 h.0 y.1 h.1 (lit< tt) (lit< tt) (simp (x.0, y.0))
 
 -- what bytes make is held by the types
-abbrev AllHeld : Reading → Type 0
-AllHeld (Reading.Got m) = Held m
-AllHeld (Reading.Refused n) = Unit {0}
+abbrev AllHeld : Result Message Refusal → Type 0
+AllHeld (Ok m) = Held m
+AllHeld (Err e) = Unit {0}
 
-abbrev TargetHeld : Targeted → Type 0
-TargetHeld (Targeted.At t) = target_number t < 256
-TargetHeld Targeted.Reserved = Unit {0}
+abbrev TargetHeld : Option Target → Type 0
+TargetHeld (Some t) = target_number t < 256
+TargetHeld None = Unit {0}
 
 target_held : (k n : ℕ) → n < 256 → TargetHeld (target_at k n)
 unfolding target_at
@@ -127,7 +127,7 @@ target_held k n h =
     (λ _. if_eq P k 10 (λ _. lit< tt)
     (λ _. if_eq P k 11 (λ _. lit< tt) (λ _. tt)))))))))))
   where
-    P : Targeted → Type 0
+    P : Option Target → Type 0
     P = TargetHeld
 
 address_held : (k n : ℕ) → n < 256 → address_number (address_at k n) < 256
@@ -149,18 +149,18 @@ held_at k a b c d e ha hb hc hd he =
     (λ _. if_eq AllHeld k 1 (λ _. (ha, hb, hc))
     (λ _. if_eq AllHeld k 7 (λ _. (field_held a b hb, field_held c d hd)) (λ _. (ha, hb, omega arith))))
   where
-    command : (x : Targeted) → TargetHeld x → AllHeld (aimed (address_at a b) x e)
-    command (Targeted.At t) h = (address_held a b hb, h, he)
-    command Targeted.Reserved h = tt
+    command : (x : Option Target) → TargetHeld x → AllHeld (aimed (address_at a b) x e)
+    command (Some t) h = (address_held a b hb, h, he)
+    command None h = tt
 
 -- a message is given by its word only
-abbrev Matches : ℕ → Reading → Type 0
-Matches w (Reading.Got m) = Held m × (word_of (Reading.Got m) ≡ w)
-Matches w (Reading.Refused n) = n ≡ 6
+abbrev Matches : ℕ → Result Message Refusal → Type 0
+Matches w (Ok m) = Held m × (word_of (Ok m) ≡ w)
+Matches w (Err e) = e ≡ OutOfRange
 
-matches : (w : ℕ) (r : Reading) → AllHeld r → Matches w (matched r w)
-matches w (Reading.Got m) h = if_eq (Matches w) (word_of (Reading.Got m)) w (λ e. (h, e)) (λ _. refl)
-matches w (Reading.Refused n) h = refl
+matches : (w : ℕ) (r : Result Message Refusal) → AllHeld r → Matches w (matched r w)
+matches w (Ok m) h = if_eq (Matches w) (word_of (Ok m)) w (λ e. (h, e)) (λ _. refl)
+matches w (Err e) h = refl
 
 message_matches : (w : ℕ) → Matches w (message_of w)
 unfolding message_of
@@ -180,15 +180,15 @@ gives_word w m e = subst (Matches w) e (message_matches w)
 pub word_refused : WordRefused
 word_refused w = (refused, λ none. go none (message_of w) (message_matches w))
   where
-    refused : message_of w ≡ Reading.Refused 6 → NoMessage w
+    refused : message_of w ≡ Err OutOfRange → NoMessage w
     refused e m h own =
-        let back : message_of w ≡ Reading.Got m = ap message_of (sym own) ∙ word_gives m h in
+        let back : message_of w ≡ Ok m = ap message_of (sym own) ∙ word_gives m h in
         let z : ◌≡◌ {A = ℕ} 0 1 = cc in
         omega arith
 
-    go : NoMessage w → (r : Reading) → Matches w r → r ≡ Reading.Refused 6
-    go none (Reading.Got m) p = absurd (none m p.0 p.1)
-    go none (Reading.Refused n) p = ap Reading.Refused p
+    go : NoMessage w → (r : Result Message Refusal) → Matches w r → r ≡ Err OutOfRange
+    go none (Ok m) p = absurd (none m p.0 p.1)
+    go none (Err e) p = ap Err p
 
 -- a kind, five values and a last byte
 last_byte : (w k a b c d e f : ℕ) → w ≡ k * 2 ^ 48 + six_bytes a b c d e f → f < 256 → bits w 7 0 ≡ f
@@ -196,7 +196,7 @@ unfolding six_bytes
 last_byte w k a b c d e f sum h =
     bits_is w 7 0 (k * 2 ^ 40 + a * 2 ^ 32 + b * 2 ^ 24 + c * 2 ^ 16 + d * 2 ^ 8 + e) f 0 (omega arith) h (omega arith)
 
-message_low : (m : Message) → bits (word_of (Reading.Got m)) 7 0 ≡ 0
+message_low : (m : Message) → bits (word_of (Ok m)) 7 0 ≡ 0
 message_low (Message.Command a t o) =
     last_byte _ 0 (address_kind a) (address_number a) (target_kind t) (target_number t) o _ refl (omega arith)
 message_low (Message.Special n x y) = last_byte _ 1 n x y 0 0 _ refl (omega arith)
@@ -206,5 +206,5 @@ message_low (Message.Power g s) =
     last_byte _ 7 (field_present g) (field_value g) (field_present s) (field_value s) 0 _ refl (omega arith)
 
 pub low_byte : LowByte
-low_byte (Reading.Got m) h = message_low m
-low_byte (Reading.Refused n) h = bits_is n 7 0 0 n 0 (omega arith) h (omega arith)
+low_byte (Ok m) h = message_low m
+low_byte (Err n) h = bits_is n 7 0 0 n 0 (omega arith) h (omega arith)

@@ -1,9 +1,8 @@
 -- The number and the values that paper 01 gives to each case of the enums, and the case of a number and a value; those
 -- that reading and writing need too stand in frames.
 -- Assumes nothing.
-use Rattle.std.specs.Prelude.{ℕ, eqb, if◌then◌else◌}
+use Rattle.std.specs.Prelude.{ℕ, eqb, if◌then◌else◌, Option, Some, None}
 use Rattle.frames.specs.declared.message.Address.{Address}
-use Rattle.frames.specs.declared.message.Field.{Field}
 use Rattle.frames.specs.declared.message.Scheme.{Scheme}
 use Rattle.frames.specs.declared.message.Target.{Target}
 
@@ -50,5 +49,5 @@ scheme_number Scheme.ShortNumber = 2
 scheme_number Scheme.GroupType = 3
 scheme_number Scheme.PrimaryType = 4
 
-unfoldable pub field_at : ℕ → ℕ → Field
-field_at present v = if eqb present 0 then Field.Blank else Field.Holds v
+unfoldable pub field_at : ℕ → ℕ → Option ℕ
+field_at present v = if eqb present 0 then None else Some v

@@ -1,11 +1,12 @@
 -- A reading as one number of eight bytes, and back.
 -- Assumes nothing.
-use Rattle.std.specs.Prelude.{ℕ, ◌+◌, ◌-◌, ◌*◌, ◌^◌, eqb, if◌then◌else◌}
+use Rattle.std.specs.Prelude.{ℕ, ◌+◌, ◌-◌, ◌*◌, ◌^◌, eqb, if◌then◌else◌, Result, Ok, Err}
 use Rattle.laws.specs.Bits.{bits}
+use Rattle.refusals.specs.declared.refusal.Refusal.{Refusal}
+use Rattle.refusals.specs.declared.refusal.Refusal.TheVariants.{OutOfRange}
 use Rattle.frames.specs.Values.{target_number, target_at, scheme_at, field_present, field_value}
 use Rattle.frames.specs.Read.{aimed}
 use Rattle.frames.specs.declared.message.Message.{Message}
-use Rattle.frames.specs.declared.message.Reading.{Reading}
 use Rattle.words.specs.Values.{address_kind, address_number, address_at, target_kind, scheme_number, field_at}
 
 -- six bytes, from high to low
@@ -31,23 +32,28 @@ message_values (Message.Power g s) = six_bytes (field_present g) (field_value g)
 
 -- a message: the first byte is 0, the second the kind; the values follow, and the low byte is 0. A refusal: its number,
 -- in the low byte
-abbrev pub word_of : Reading → ℕ
-word_of (Reading.Got m) = message_kind m * 2 ^ 48 + message_values m
-word_of (Reading.Refused n) = n
+abbrev pub word_of : Result Message ℕ → ℕ
+word_of (Ok m) = message_kind m * 2 ^ 48 + message_values m
+word_of (Err n) = n
+
+-- the number of a reading: 0 for a message
+abbrev pub reading_number : Result Message ℕ → ℕ
+reading_number (Ok m) = 0
+reading_number (Err n) = n
 
 -- what a kind and five values would be
-unfoldable pub message_at : ℕ → ℕ → ℕ → ℕ → ℕ → ℕ → Reading
+unfoldable pub message_at : ℕ → ℕ → ℕ → ℕ → ℕ → ℕ → Result Message Refusal
 message_at kind a b c d e =
     if eqb kind 0 then aimed (address_at a b) (target_at c d) e
-    else if eqb kind 1 then Reading.Got (Message.Special a b c)
-    else if eqb kind 7 then Reading.Got (Message.Power (field_at a b) (field_at c d))
-    else Reading.Got (Message.Event (scheme_at (kind - 2)) a b (c * 256 + d))
+    else if eqb kind 1 then Ok (Message.Special a b c)
+    else if eqb kind 7 then Ok (Message.Power (field_at a b) (field_at c d))
+    else Ok (Message.Event (scheme_at (kind - 2)) a b (c * 256 + d))
 
 -- it is, if the word is its word. 6: no message has the word
-abbrev pub matched : Reading → ℕ → Reading
-matched (Reading.Got m) w = if eqb (word_of (Reading.Got m)) w then Reading.Got m else Reading.Refused 6
-matched (Reading.Refused n) w = Reading.Refused 6
+abbrev pub matched : Result Message Refusal → ℕ → Result Message Refusal
+matched (Ok m) w = if eqb (word_of (Ok m)) w then Ok m else Err OutOfRange
+matched (Err e) w = Err OutOfRange
 
-unfoldable pub message_of : ℕ → Reading
+unfoldable pub message_of : ℕ → Result Message Refusal
 message_of w =
     matched (message_at (bits w 55 48) (bits w 47 40) (bits w 39 32) (bits w 31 24) (bits w 23 16) (bits w 15 8)) w

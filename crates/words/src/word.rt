@@ -1,146 +1,70 @@
 // A reading as one number of eight bytes, and back.
-ghost use Rattle.std.specs.Prelude.{◌≡◌, ◌<◌, ◌^◌};
-ghost use Rattle.words.specs.Word.{six_bytes, message_kind, message_values, word_of, message_at, matched};
+ghost use Rattle.std.specs.Prelude.{◌≡◌, Ok};
+ghost use Rattle.words.specs.Word.{word_of, message_at, matched};
 ghost use Rattle.words.specs.Promises.{WordOfPromise, MessageOfPromise};
 
-use crate::values::{
-    address_at, address_kind, address_number, field_at, scheme_number, target_kind,
-};
-use frames::{
-    Message, Reading, aimed_at, field_present, field_value, scheme_at, target_at, target_number,
-};
+use crate::values::{address_at, address_kind, address_number, field_at, target_kind};
+use frames::{Message, aimed_at, scheme_at, target_at, target_number};
+use refusals::Refusal;
 
-// Places: BYTE_n is what byte number n of the word counts for, the low byte being number 0; BYTE is how many numbers a
-// byte can say. The information of an event has two bytes of its own.
-const BYTE: u64 = 256;
-
-const BYTE_1: u64 = 0x100;
-
-const BYTE_2: u64 = 0x10000;
-
-const BYTE_3: u64 = 0x1000000;
-
-const BYTE_4: u64 = 0x100000000;
-
-const BYTE_5: u64 = 0x10000000000;
-
-const BYTE_6: u64 = 0x1000000000000;
-
-const HIGH_BYTE: u16 = 0x100;
-
-fn wide(byte: u8) -> u64
-    ensures { result ≡ byte }
-{
-    byte as u64
-}
-
-#[tactic(auto, unfolding(crate::specs::Word::six_bytes))]
-fn six_bytes(a: u8, b: u8, c: u8, d: u8, e: u8, f: u8) -> u64
-    ensures same { result ≡ six_bytes a b c d e f }
-    ensures small { result < 2 ^ 48 }
-{
-    let high = wide(a) * BYTE_5 + wide(b) * BYTE_4 + wide(c) * BYTE_3;
-    high + wide(d) * BYTE_2 + wide(e) * BYTE_1 + wide(f)
-}
-
-fn message_kind(message: Message) -> u8
-    ensures same { result ≡ message_kind message }
-    ensures small { result < 8 }
-{
-    match message {
-        Message::Command(_, _, _) => 0,
-        Message::Special(_, _, _) => 1,
-        Message::Event(scheme, _, _, _) => 2 + scheme_number(scheme),
-        Message::Power(_, _) => 7,
-    }
-}
-
-#[tactic(auto, unfolding(laws::specs::Bits::bits))]
-fn message_values(message: Message) -> u64
-    ensures same { result ≡ message_values message }
-    ensures small { result < 2 ^ 48 }
-{
-    match message {
-        Message::Command(address, target, opcode) => six_bytes(
-            address_kind(address),
-            address_number(address),
-            target_kind(target),
-            target_number(target),
-            opcode,
-            0,
-        ),
-        Message::Special(number, x, y) => six_bytes(number, x, y, 0, 0, 0),
-        Message::Event(_, first, second, information) => {
-            let high = (information / HIGH_BYTE % HIGH_BYTE) as u8;
-            let low = (information % HIGH_BYTE) as u8;
-            six_bytes(first, second, high, low, 0, 0)
-        }
-        Message::Power(group, short) => six_bytes(
-            field_present(group),
-            field_value(group),
-            field_present(short),
-            field_value(short),
-            0,
-            0,
-        ),
-    }
-}
-
+// The first byte is 0, the second the kind; the values follow, and the last byte is 0.
+#[tactic(auto, unfolding(crate::specs::Word::six_bytes, laws::specs::Bits::bits))]
 fn message_word(message: Message) -> u64
-    ensures { result ≡ word_of (Reading.Got message) }
+    ensures { result ≡ word_of (Ok message) }
 {
-    wide(message_kind(message)) * BYTE_6 + message_values(message)
+    u64::from_be_bytes(match message {
+        Message::Command(address, target, opcode) => {
+            let (a, b) = (address_kind(address), address_number(address));
+            let (c, d) = (target_kind(target), target_number(target));
+            [0, 0, a, b, c, d, opcode, 0]
+        }
+        Message::Special(number, x, y) => [0, 1, number, x, y, 0, 0, 0],
+        Message::Event(scheme, first, second, information) => {
+            let [high, low] = information.to_be_bytes();
+            [0, 2 + scheme as u8, first, second, high, low, 0, 0]
+        }
+        Message::Power(group, short) => {
+            let (a, b) = (u8::from(group.is_some()), group.unwrap_or(0));
+            let (c, d) = (u8::from(short.is_some()), short.unwrap_or(0));
+            [0, 7, a, b, c, d, 0, 0]
+        }
+    })
 }
 
-pub fn word_of(reading: Reading) -> u64
+pub fn word_of(reading: Result<Message, u8>) -> u64
     ensures { WordOfPromise reading result }
 {
     match reading {
-        Reading::Got(message) => message_word(message),
-        Reading::Refused(number) => wide(number),
+        Ok(message) => message_word(message),
+        Err(number) => u64::from(number),
     }
 }
 
-#[tactic(auto, using(laws::proofs::Tests::tests), unfolding(crate::specs::Word::message_at))]
-fn message_at(kind: u8, a: u8, b: u8, c: u8, d: u8, e: u8) -> Reading
+#[tactic(auto, unfolding(crate::specs::Word::message_at))]
+fn message_at(kind: u8, a: u8, b: u8, c: u8, d: u8, e: u8) -> Result<Message, Refusal>
     ensures { result ≡ message_at kind a b c d e }
 {
-    if kind == 0 {
-        return aimed_at(address_at(a, b), target_at(c, d), e);
+    match kind {
+        0 => aimed_at(address_at(a, b), target_at(c, d), e),
+        1 => Ok(Message::Special(a, b, c)),
+        7 => Ok(Message::Power(field_at(a, b), field_at(c, d))),
+        _ => Ok(Message::Event(scheme_at(kind - 2), a, b, u16::from_be_bytes([c, d]))),
     }
-    if kind == 1 {
-        return Reading::Got(Message::Special(a, b, c));
-    }
-    if kind == 7 {
-        return Reading::Got(Message::Power(field_at(a, b), field_at(c, d)));
-    }
-    let information = (c as u16) * HIGH_BYTE + d as u16;
-    Reading::Got(Message::Event(scheme_at(kind - 2), a, b, information))
 }
 
-fn matched_with(reading: Reading, word: u64) -> Reading
+fn matched_with(reading: Result<Message, Refusal>, word: u64) -> Result<Message, Refusal>
     ensures { result ≡ matched reading word }
 {
     match reading {
-        Reading::Got(message) => {
-            if message_word(message) == word {
-                return Reading::Got(message);
-            }
-            Reading::Refused(6)
-        }
-        Reading::Refused(_) => Reading::Refused(6),
+        Ok(message) if message_word(message) == word => Ok(message),
+        _ => Err(Refusal::OutOfRange),
     }
 }
 
 #[tactic(auto, unfolding(crate::specs::Word::message_of, laws::specs::Bits::bits))]
-pub fn message_of(word: u64) -> Reading
+pub fn message_of(word: u64) -> Result<Message, Refusal>
     ensures { MessageOfPromise word result }
 {
-    let kind = (word / BYTE_6 % BYTE) as u8;
-    let a = (word / BYTE_5 % BYTE) as u8;
-    let b = (word / BYTE_4 % BYTE) as u8;
-    let c = (word / BYTE_3 % BYTE) as u8;
-    let d = (word / BYTE_2 % BYTE) as u8;
-    let e = (word / BYTE_1 % BYTE) as u8;
+    let [_, kind, a, b, c, d, e, _] = word.to_be_bytes();
     matched_with(message_at(kind, a, b, c, d, e), word)
 }

@@ -1,6 +1,6 @@
 -- The invariant of `banks::parts::put_part`.
 -- Assumes nothing.
-use Prim.Native.Nat.{◌≤◌, ◌-◌}
+use Prim.Native.Nat.{◌≤◌}
 use mathlib.Core.Path.{◌≡◌}
 use mathlib.Core.List.{◌++◌}
 use lib.ListN.{length, take, drop}
@@ -8,7 +8,4 @@ use Rattle.banks.proofs.parts.put_part.Given as goal
 
 abbrev pub invariant-loop-i : goal.invariant-loop-i
 invariant-loop-i l =
-    (l.i ≤ length l.initial.part) × (length l.part ≡ length l.initial.part) × (l.part ≡ take l.i l.bytes ++ drop l.i l.initial.part)
-
-abbrev pub decreases-loop-i : goal.decreases-loop-i
-decreases-loop-i l = length l.initial.part - l.i
+    (l.i-end ≡ length l.initial.part) × (length l.part ≡ length l.initial.part) × (l.part ≡ take l.i l.bytes ++ drop l.i l.initial.part)

@@ -1,10 +1,10 @@
 -- `banks::rules::head_bytes_hold` meets its contract.
 -- Assumes nothing.
-use Rattle.records.proofs.Walk.{member}
-use Rattle.banks.proofs.Places.{member_inside}
+use Rattle.std.proofs.Common.{rules}
+use Rattle.records.proofs.Walk.{all_is}
+use Rattle.banks.specs.Rules.{head_bytes_hold}
 use Rattle.banks.proofs.rules.head_bytes_hold.Goals as goal
 
-pub head_holds-requires : goal.head_holds-requires
-head_holds-requires c =
-    member_inside _ _ c.requires _
-    (member _ _ _ c.loop-i.invariant.0 c.loop-i-test.true _ c.record_at-r.ensures)
+pub returns : goal.returns
+unfolding head_bytes_hold
+returns c = all_is _ c.all.ensures.runs c.records.ensures (λ x b q k. search rules)

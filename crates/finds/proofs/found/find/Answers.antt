@@ -1,12 +1,10 @@
--- A look-up examines few enough records that their count is a byte.
+-- A map that breaks 7, 8 or 9.
 -- Assumes nothing.
-use Rattle.std.proofs.Common.{sym, ◌∙◌, rules}
-use Rattle.records.proofs.Ordered.{zero_ordered}
-use Rattle.finds.proofs.Finds.{sought_fits}
+use Rattle.std.proofs.lemmas.Result.{err_from_is_err_and}
+use Rattle.finds.proofs.Finds.{find_refused}
 use Rattle.finds.proofs.found.find.Goals as goal
 
-pub overflow_cast-result : goal.overflow_cast-result
-overflow_cast-result c =
-    let small = sought_fits _ (zero_ordered _ (sym c.order_number-number.ensures ∙ c.if-number-ne0.false)) _ _
-    c.halve-sought.result c.halve-sought.ensures in
-    search rules
+pub returns-in_err-map : goal.returns-in_err-map
+returns-in_err-map c =
+    let p = err_from_is_err_and c.from_residual.result c.from_residual.ensures.1 in
+    rw (p.1, p.2) (find_refused c.args.map.now c.args.bank c.args.location _ c.in_err-map.ensures.number)

@@ -1,6 +1,6 @@
 -- The bytes from number `i` on are still to come.
 -- Assumes nothing.
-use Rattle.std.proofs.Common.{◌≡◌, ◌+◌, ◌-◌, ◌≤◌, length, drop}
+use Rattle.std.proofs.Common.{◌≡◌, ◌+◌, ◌≤◌, length, drop}
 use Rattle.session.specs.Session.{byte_writes, sent_all}
 use Rattle.session.proofs.writer.bytes_sent.Given as goal
 
@@ -11,6 +11,3 @@ invariant-loop-i l =
       many : l.next.count ≡ l.fn.session.count + l.i;
       within : l.i ≤ length l.bytes;
     }
-
-abbrev pub decreases-loop-i : goal.decreases-loop-i
-decreases-loop-i l = length l.bytes - l.i

@@ -1,9 +1,5 @@
 use Rattle.tracing.specs.Flow.{Flows}
 use Rattle.trace.proofs.input.trace_all.Given as goal
 
-abbrev pub invariant-loop-turns : goal.invariant-loop-turns
-invariant-loop-turns l = Flows l.turned.flow
-
--- proposed from the loop's first test
-abbrev pub decreases-loop-turns : goal.decreases-loop-turns
-decreases-loop-turns l = l.turns
+abbrev pub invariant-loop : goal.invariant-loop
+invariant-loop l = Flows l.flow

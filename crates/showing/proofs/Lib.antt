@@ -1,2 +1,0 @@
-pub mod Seeing
-pub mod Nexts
