@@ -4,7 +4,7 @@
  *   Stack             at most 2,048 bytes for any call. Measured on x86-64: mf_check 128, mf_start 368, mf_frame 960,
  *                     mf_power_on 880, mf_run 1584, mf_look 160, mf_find 80, mf_compare 240, mf_session 288, mf_read 288,
  *                     mf_write 40, mf_compose_event 56, mf_compose_power 24, mf_census 448 bytes
- *   Code              about 25,000 bytes with its constants on x86-64
+ *   Code              about 26,000 bytes with its constants on x86-64
  *   Needs             memcpy, and nothing else: no heap, no file, no initialisation
  *   Re-entrant        every call: it keeps nothing of its own, and it returns. One unit is stepped by one thread at a
  *                     time; different units, and calls without a unit, need no lock between them

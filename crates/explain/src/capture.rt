@@ -1,10 +1,19 @@
 // The capture, record by record, by a unit that takes the same steps.
+use crate::page::Page;
 use hearing::Who;
 use rooms::State;
 use showing::{Ends, Start, Turn, begin, seen_of, take_next};
+use std::fmt::{Display, Write};
 use std::io;
 use std::io::Print;
 use streams::read_full;
+
+// The lines are made on the page, and written at once.
+fn print_page<D: Display + Drop>(rt: &HostRuntime, page: &mut Page, lines: D) -> io::Result<()> {
+    page.clear();
+    let _ = page.write(lines);
+    rt.write_all(page.as_bytes())
+}
 
 // A proved loop has to end, and nothing says that the input does: it counts its turns, up to a number that no run uses
 // up. Behind a capture that is whole come the values.
@@ -15,6 +24,7 @@ fn show_records(
     image: &[u8],
     first: &[u8],
     start: State,
+    page: &mut Page,
 ) -> io::Result<()> {
     let mut bytes = [0u8; 8];
     let mut state = start;
@@ -23,17 +33,21 @@ fn show_records(
         let seen = seen_of(store);
         match take_next(map, store, image, state, &bytes, n) {
             Ok(Some(step)) => {
-                rt.print(Turn {
-                    map,
-                    seen: &seen,
-                    store,
-                    bytes: &bytes,
-                    was: state,
-                    step,
-                })?;
+                print_page(
+                    rt,
+                    page,
+                    Turn {
+                        map,
+                        seen: &seen,
+                        store,
+                        bytes: &bytes,
+                        was: state,
+                        step,
+                    },
+                )?;
                 state = step.state;
             }
-            Ok(None) => return rt.print(Ends { map, first, store }),
+            Ok(None) => return print_page(rt, page, Ends { map, first, store }),
             Err(_) => return Ok(()),
         }
     }
@@ -49,13 +63,18 @@ fn show_unit(
 ) -> io::Result<()> {
     let first = seen_of(store);
     let state = begin(map, store, image, who);
-    rt.print(Start {
-        map,
-        seen: &first,
-        store,
-        who,
-    })?;
-    show_records(rt, map, store, image, &first, state)
+    let mut page = Page::new();
+    print_page(
+        rt,
+        &mut page,
+        Start {
+            map,
+            seen: &first,
+            store,
+            who,
+        },
+    )?;
+    show_records(rt, map, store, image, &first, state, &mut page)
 }
 
 // Nothing of a unit whose start is refused.

@@ -3,6 +3,7 @@
 #![tactic(auto)]
 
 mod capture; // record by record
+mod page; // what a record came to, written whole
 
 use streams::{say_lost, with_unit};
 

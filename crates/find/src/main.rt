@@ -2,13 +2,19 @@
 // bank and the location, two bytes each, high first, and the map behind them.
 #![tactic(auto)]
 
+ghost use Rattle.std.specs.Prelude.{◌≡◌};
+ghost use Rattle.refusals.specs.Numbers.{number_in};
+ghost use Rattle.finds.specs.Find.{find_number};
+
 use finds::Finding;
 use places::{Examined, Standing};
-use records::{check_order, record_count};
+use records::record_count;
+use refusals::Refusal;
 use std::io;
 use std::io::Read;
 use streams::{read_full, say_lost, say_refused};
 
+// Both lines are tried, whatever became of the first.
 fn write(
     rt: &HostRuntime,
     bank: u8,
@@ -22,9 +28,10 @@ fn write(
         location,
         found,
     };
-    println!(rt; "{standing}")?;
     let examined = Examined { count, records };
-    println!(rt; "{examined}")
+    let there = println!(rt; "{standing}");
+    let behind = println!(rt; "{examined}");
+    there.and(behind)
 }
 
 fn find_byte(rt: &HostRuntime, map: &[u8], bank: u8, location: u8) {
@@ -38,21 +45,29 @@ fn find_byte(rt: &HostRuntime, map: &[u8], bank: u8, location: u8) {
     }
 }
 
-// What is no byte is refused behind 7, 8 and 9.
-fn find(rt: &HostRuntime, map: &[u8], bank: u16, location: u16) {
-    if let Err(refusal) = check_order(map) {
-        say_refused(rt, refusal);
-        return;
+// A bank and location of any size: 7, 8, 9, then 6 for what is no byte.
+fn find_any(map: &[u8], bank: u16, location: u16) -> Result<Finding, Refusal>
+    ensures { number_in result ≡ find_number map.now bank location }
+{
+    finds::find_wide(map, u32::from(bank), u32::from(location))
+}
+
+fn refuse_over(rt: &HostRuntime, map: &[u8], bank: u16, location: u16, words: &str) {
+    match find_any(map, bank, location) {
+        Err(Refusal::OutOfRange) => {
+            let _ = eprintln!(rt; "6: {words}");
+        }
+        Err(refusal) => say_refused(rt, refusal),
+        Ok(_) => {}
     }
-    let Ok(bank) = u8::try_from(bank) else {
-        let _ = rt.eprintln("6: the bank is over 255");
-        return;
-    };
-    let Ok(location) = u8::try_from(location) else {
-        let _ = rt.eprintln("6: the location is over 255");
-        return;
-    };
-    find_byte(rt, map, bank, location);
+}
+
+fn find(rt: &HostRuntime, map: &[u8], bank: u16, location: u16) {
+    match (u8::try_from(bank), u8::try_from(location)) {
+        (Ok(bank), Ok(location)) => find_byte(rt, map, bank, location),
+        (Err(_), _) => refuse_over(rt, map, bank, location, "the bank is over 255"),
+        _ => refuse_over(rt, map, bank, location, "the location is over 255"),
+    }
 }
 
 // One byte more than the longest map has, so that a longer one is seen to be longer.

@@ -25,7 +25,7 @@ use Rattle.records.specs.declared.holder.Why.{Why}
 use Rattle.records.specs.declared.holder.Sought.{Sought}
 use Rattle.records.specs.declared.holder.Why.TheVariants.{Absent, Hole, Past}
 use Rattle.records.proofs.Members.{member_fields}
-use Rattle.records.proofs.Ordered.{zero_ordered, ordered_zero, ordered_size}
+use Rattle.records.proofs.Ordered.{zero_ordered, ordered_zero, ordered_size, size_most}
 use Rattle.records.proofs.Halving.{halving_finds}
 use Rattle.records.proofs.Visits.{visited_most}
 use Rattle.records.proofs.Missing.{found_exactly}
@@ -87,6 +87,11 @@ of_number map bank location =
     if_eq (λ (x : Result Finding Refusal). number_in x ≡ order_number map) (order_number map) 0
     (λ e. sym e)
     (λ n. number_among (order_tests map) refl (order_number map) refl n)
+
+-- an accepted map has at most 64 records
+pub found_size : (map : List ℕ) (bank location : ℕ) → number_in (find_of map bank location) ≡ 0 → length map ≤ 512
+found_size map bank location e =
+    size_most (length map) (ordered_size map (zero_ordered map (sym (of_number map bank location) ∙ e)))
 
 pub find_refuses : FindRefuses
 find_refuses map bank location n h =

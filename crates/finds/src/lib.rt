@@ -5,4 +5,4 @@ mod found; // the answer and its count
 mod worded; // as one number, for banks and locations of any size
 
 pub use found::{Finding, find};
-pub use worded::find_word;
+pub use worded::{find_wide, find_word};

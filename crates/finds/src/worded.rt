@@ -17,7 +17,7 @@ fn byte(n: u32) -> Result<u8, Refusal>
 
 // 7, 8, 9, then 6. Bank and location are wider than bytes, so that neither is cut to fit.
 #[tactic(auto, using(crate::proofs::Finds::number_refused, crate::proofs::Finds::bank_over, crate::proofs::Finds::location_over, crate::proofs::Finds::number_none))]
-fn find_wide(map: &[u8], bank: u32, location: u32) -> Result<Finding, Refusal>
+pub fn find_wide(map: &[u8], bank: u32, location: u32) -> Result<Finding, Refusal>
     ensures number { number_in result ≡ find_number map.now bank location }
     ensures found { IfOk result (λ finding. finding ≡ accepted_find map.now bank location) }
 {

@@ -1,4 +1,5 @@
-// From a frame to a message.
+// From a frame to a message. What `read` is made of is always put into its caller, and it too: each frame of a trace is read, and a
+// message that goes through memory costs a part of that (docs/LOOK-BACK.md).
 ghost use Rattle.std.specs.Prelude.{◌≡◌};
 ghost use Rattle.frames.specs.Read.{address_of, target_of, aimed, command_of, field_of, power_of, scheme_of};
 ghost use Rattle.frames.specs.Read.{first_field, other_of, event_of};
@@ -44,6 +45,7 @@ pub fn aimed_at(address: Address, targeted: Option<Target>, opcode: u8) -> Resul
     Ok(Message::Command(address, target, opcode))
 }
 
+#[inline(always)]
 #[tactic(auto, unfolding(crate::specs::Read::command_of))]
 fn read_command(frame: u32) -> Result<Message, Refusal>
     ensures { result ≡ command_of frame }
@@ -71,12 +73,16 @@ fn scheme_of(b23: u32, b22: u32, b15: u32) -> Option<Scheme>
     }
 }
 
+// An arm for each scheme: as two, each event of a trace takes longer (docs/LOOK-BACK.md).
 fn first_field(scheme: Scheme, frame: u32) -> u8
     ensures { result ≡ first_field scheme frame }
 {
     match scheme {
-        Scheme::ShortType | Scheme::ShortNumber => bits(frame, 22, 17) as u8,
-        Scheme::TypeNumber | Scheme::GroupType | Scheme::PrimaryType => bits(frame, 21, 17) as u8,
+        Scheme::TypeNumber => bits(frame, 21, 17) as u8,
+        Scheme::ShortType => bits(frame, 22, 17) as u8,
+        Scheme::ShortNumber => bits(frame, 22, 17) as u8,
+        Scheme::GroupType => bits(frame, 21, 17) as u8,
+        Scheme::PrimaryType => bits(frame, 21, 17) as u8,
     }
 }
 
@@ -85,23 +91,31 @@ fn first_field(scheme: Scheme, frame: u32) -> u8
 fn field_of(announced: u32, value: u8) -> Result<Option<u8>, Refusal>
     ensures { result ≡ field_of announced value }
 {
-    match (announced, value) {
-        (1, _) => Ok(Some(value)),
-        (_, 0) => Ok(None),
-        _ => Err(Refusal::BlankNotZero),
+    if announced == 1 {
+        Ok(Some(value))
+    } else if value == 0 {
+        Ok(None)
+    } else {
+        Err(Refusal::BlankNotZero)
     }
 }
 
+#[inline(always)]
 #[tactic(auto, unfolding(crate::specs::Read::power_of, crate::specs::Read::field_of))]
 fn read_power(frame: u32) -> Result<Message, Refusal>
     ensures { result ≡ power_of frame }
 {
-    let group = field_of(bits(frame, 12, 12), bits(frame, 11, 7) as u8)?;
-    let short = field_of(bits(frame, 6, 6), bits(frame, 5, 0) as u8)?;
+    let Ok(group) = field_of(bits(frame, 12, 12), bits(frame, 11, 7) as u8) else {
+        return Err(Refusal::BlankNotZero);
+    };
+    let Ok(short) = field_of(bits(frame, 6, 6), bits(frame, 5, 0) as u8) else {
+        return Err(Refusal::BlankNotZero);
+    };
     Ok(Message::Power(group, short))
 }
 
 // Bits 23, 22 and 15 are ones: a power cycle event, or reserved.
+#[inline(always)]
 #[tactic(auto, unfolding(crate::specs::Read::other_of))]
 fn read_other(frame: u32) -> Result<Message, Refusal>
     ensures { result ≡ other_of frame }
@@ -112,6 +126,7 @@ fn read_other(frame: u32) -> Result<Message, Refusal>
     }
 }
 
+#[inline(always)]
 #[tactic(auto, unfolding(crate::specs::Read::event_of))]
 fn read_event(frame: u32) -> Result<Message, Refusal>
     ensures { result ≡ event_of frame }
@@ -129,6 +144,7 @@ fn read_event(frame: u32) -> Result<Message, Refusal>
     Ok(Message::Event(scheme, first, second, information))
 }
 
+#[inline(always)]
 #[tactic(auto, unfolding(crate::specs::Read::read_of))]
 pub fn read(frame: u32) -> Result<Message, Refusal>
     ensures { ReadPromise frame result }

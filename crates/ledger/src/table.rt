@@ -1,5 +1,7 @@
 // The counts as a table: a line for each class, with a bar; the sum of them, and the power-on
 // records apart.
+ghost use Rattle.std.specs.Prelude.{◌≤◌};
+
 use crate::bars::bar;
 use crate::input::frame_records;
 use std::io;
@@ -23,7 +25,9 @@ const NAMES: [&str; 15] = [
     "reserved events",
 ];
 
-fn digits(number: u64) -> usize {
+fn digits(number: u64) -> usize
+    ensures { result ≤ 20 }
+{
     number
         .checked_ilog10()
         .map_or(1, |power| power as usize + 1)

@@ -1,6 +1,6 @@
 -- What a run of records does, turn by turn, and what it promises.
 -- Assumes nothing.
-use Rattle.std.specs.Prelude.{ℕ, ◌+◌, ◌*◌, ◌/◌, ◌≤◌, ◌≡◌, false, List, [], ◌∷◌, ◌++◌, ltb, length, take, drop, if◌then◌else◌, Result, Ok, Err}
+use Rattle.std.specs.Prelude.{ℕ, ◌+◌, ◌*◌, ◌/◌, ◌≤◌, ◌≡◌, false, List, [], ◌∷◌, ◌++◌, ltb, length, take, drop, if◌then◌else◌}
 use Rattle.laws.specs.Outcome.{Outcome, leaves}
 use Rattle.refusals.specs.declared.refusal.Refusal.{Refusal}
 use Rattle.hearing.specs.Pairs.{heard_at}
@@ -19,11 +19,6 @@ unfoldable pub turn_of : List ℕ → List ℕ → List ℕ → State → Entry 
 turn_of map image store s (Entry.Frame clock frame) = step_of map store image s (heard_at clock frame)
 turn_of map image store s Entry.PowerOn = power_on_of map store image s
 turn_of map image store s Entry.Broken = leaves (refusing s Refusal.BrokenRecord) store
-
--- what is done, or the refusal with the state that was handed in
-abbrev pub or_refusing : State → Result Stepped Refusal → Stepped
-or_refusing s (Ok stepped) = stepped
-or_refusing s (Err refusal) = refusing s refusal
 
 -- what was written before, and behind it what a run writes
 abbrev pub behind : List ℕ → Traced → Traced

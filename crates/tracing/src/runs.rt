@@ -5,7 +5,7 @@ ghost use Rattle.laws.specs.Parts.{put};
 ghost use Rattle.refusals.specs.Numbers.{number_in};
 ghost use Rattle.numbers.specs.Numbers.{power_number};
 ghost use Rattle.unit.specs.Run.{output_of};
-ghost use Rattle.tracing.specs.Run.{turn_of, or_refusing, Begins, Turns, room_for};
+ghost use Rattle.tracing.specs.Run.{turn_of, Begins, Turns, room_for};
 ghost use Rattle.tracing.specs.Promises.{RunPromise};
 
 use banks::Stored;
@@ -43,8 +43,7 @@ fn write_reply(output: &mut [u8], at: usize, reply: Reply)
     output[at..at + 4].copy_from_slice(&four_bytes_of(reply));
 }
 
-// Internal: what the record's public call would do, or what it refuses with. What a power-on is refused with is known
-// from the one check.
+// Internal: what the record's public call would do. What a power-on is refused with is known from the one check.
 #[tactic(auto, using(crate::proofs::Checks::turn_refused, crate::proofs::Checks::stands_there, crate::proofs::Checks::turn_powers, crate::proofs::Checks::turn_unheard, crate::proofs::Checks::turn_hears), unfolding(crate::specs::Run::turn_of))]
 fn step_entry(
     map: &[u8],
@@ -53,22 +52,26 @@ fn step_entry(
     state: State,
     checked: Result<(), Refusal>,
     entry: Entry,
-) -> Result<Stepped, Refusal>
+) -> Stepped
     requires { number_in checked ≡ power_number map.now store.old (length image.now) state }
-    ensures { Gives (or_refusing state result) store.new (turn_of map.now image.now store.old state entry) }
+    ensures { Gives result store.new (turn_of map.now image.now store.old state entry) }
 {
     match entry {
         Entry::Frame(clock, frame) => {
-            checked?;
+            if let Err(refusal) = checked {
+                return refusing(state, refusal);
+            }
             let heard = hearing::heard_at(clock, frame);
-            numbers::check_heard(Stored { map, store }, state, heard)?;
-            Ok(unit::frame_step(map, store, image, state, heard))
+            match numbers::check_heard(Stored { map, store }, state, heard) {
+                Ok(()) => unit::frame_step(map, store, image, state, heard),
+                Err(refusal) => refusing(state, refusal),
+            }
         }
-        Entry::PowerOn => {
-            checked?;
-            Ok(unit::power_step(map, store, image, state))
-        }
-        Entry::Broken => Err(Refusal::BrokenRecord),
+        Entry::PowerOn => match checked {
+            Ok(()) => unit::power_step(map, store, image, state),
+            Err(refusal) => refusing(state, refusal),
+        },
+        Entry::Broken => refusing(state, Refusal::BrokenRecord),
     }
 }
 
@@ -87,9 +90,7 @@ fn turn(
         records.now output.old output.new (number_in checked) }
 {
     let entry = entry_at(records, ran.count);
-    let stepped = step_entry(map, store, image, ran.state, checked, entry).unwrap_or_else(
-        |refusal| refusing(ran.state, refusal),
-    );
+    let stepped = step_entry(map, store, image, ran.state, checked, entry);
     write_reply(output, 4 * ran.count, stepped.reply);
     Ran {
         state: stepped.state,
