@@ -7,6 +7,7 @@ use mathlib.Core.List.Memᴰ
 use mathlib.Core.List.{List, [], ◌∷◌, ◌++◌, map as each, Memᴰ}
 use native.Mathlib.Omega.{arith}
 use native.Mathlib.Nat.{zero-add}
+use mir.Val.{bool_byte}
 use lib.ListN.{length, replicate, length-append, length-replicate}
 use Rattle.std.specs.Prelude.{if◌then◌else◌}
 use Rattle.laws.specs.Lists.{items}
@@ -123,6 +124,11 @@ to_those f (j ∷ l) i m t = go (λ k. to_those f l i k t) (f j) refl m
     go behind true q (Memᴰ.tail k) = Memᴰ.tail (behind k)
     go behind false q (Memᴰ.head e) = absurd (false≢true (sym q ∙ ap f (sym e) ∙ t))
     go behind false q (Memᴰ.tail k) = behind k
+
+-- a test as a number is 0 or 1
+pub bool_byte_lem : (b : Bool) → bool_byte b ≤ 1
+bool_byte_lem true = omega arith
+bool_byte_lem false = omega arith
 
 -- the records of a map are those at the positions below their number
 pub items_each : (item : ℕ → Record) (i n : ℕ) → items item i n ≡ each item (items (λ i. i) i n)

@@ -11,7 +11,7 @@ use streams::read_full;
 // The lines are made on the page, and written at once.
 fn print_page<D: Display + Drop>(rt: &HostRuntime, page: &mut Page, lines: D) -> io::Result<()> {
     page.clear();
-    let _ = page.write(lines);
+    page.write(lines)?;
     rt.write_all(page.as_bytes())
 }
 

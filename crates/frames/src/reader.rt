@@ -73,16 +73,14 @@ fn scheme_of(b23: u32, b22: u32, b15: u32) -> Option<Scheme>
     }
 }
 
-// An arm for each scheme: as two, each event of a trace takes longer (docs/LOOK-BACK.md).
+// The first and the last arm are alike: put together, each event of a trace takes longer (docs/LOOK-BACK.md).
 fn first_field(scheme: Scheme, frame: u32) -> u8
     ensures { result ≡ first_field scheme frame }
 {
     match scheme {
         Scheme::TypeNumber => bits(frame, 21, 17) as u8,
-        Scheme::ShortType => bits(frame, 22, 17) as u8,
-        Scheme::ShortNumber => bits(frame, 22, 17) as u8,
-        Scheme::GroupType => bits(frame, 21, 17) as u8,
-        Scheme::PrimaryType => bits(frame, 21, 17) as u8,
+        Scheme::ShortType | Scheme::ShortNumber => bits(frame, 22, 17) as u8,
+        Scheme::GroupType | Scheme::PrimaryType => bits(frame, 21, 17) as u8,
     }
 }
 
@@ -91,12 +89,9 @@ fn first_field(scheme: Scheme, frame: u32) -> u8
 fn field_of(announced: u32, value: u8) -> Result<Option<u8>, Refusal>
     ensures { result ≡ field_of announced value }
 {
-    if announced == 1 {
-        Ok(Some(value))
-    } else if value == 0 {
-        Ok(None)
-    } else {
-        Err(Refusal::BlankNotZero)
+    match (announced == 1).then_some(value) {
+        None if value != 0 => Err(Refusal::BlankNotZero),
+        field => Ok(field),
     }
 }
 
@@ -105,12 +100,8 @@ fn field_of(announced: u32, value: u8) -> Result<Option<u8>, Refusal>
 fn read_power(frame: u32) -> Result<Message, Refusal>
     ensures { result ≡ power_of frame }
 {
-    let Ok(group) = field_of(bits(frame, 12, 12), bits(frame, 11, 7) as u8) else {
-        return Err(Refusal::BlankNotZero);
-    };
-    let Ok(short) = field_of(bits(frame, 6, 6), bits(frame, 5, 0) as u8) else {
-        return Err(Refusal::BlankNotZero);
-    };
+    let group = field_of(bits(frame, 12, 12), bits(frame, 11, 7) as u8)?;
+    let short = field_of(bits(frame, 6, 6), bits(frame, 5, 0) as u8)?;
     Ok(Message::Power(group, short))
 }
 
@@ -120,10 +111,10 @@ fn read_power(frame: u32) -> Result<Message, Refusal>
 fn read_other(frame: u32) -> Result<Message, Refusal>
     ensures { result ≡ other_of frame }
 {
-    match (bits(frame, 23, 17), bits(frame, 15, 13)) {
-        (0x7F, 7) => read_power(frame),
-        _ => Err(Refusal::ReservedEvent),
-    }
+    let (0x7F, 7) = (bits(frame, 23, 17), bits(frame, 15, 13)) else {
+        return Err(Refusal::ReservedEvent);
+    };
+    read_power(frame)
 }
 
 #[inline(always)]

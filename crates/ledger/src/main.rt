@@ -8,26 +8,42 @@ mod input; // slice after slice
 mod table; // the counts in words
 
 use input::Broken;
+use std::fmt::Display;
 use std::io;
 use std::io::Read;
 use streams::{Form, say_lost};
 
+// Kept: in parts: what may not change: each is tried, whatever became of the one before.
+fn say<D: Display + Drop>(rt: &HostRuntime, part: D) {
+    let _ = rt.eprint(part);
+}
+
 // The record that ended the count stands behind all that were counted.
-fn say_broken(rt: &HostRuntime, counts: &[u64; 16], why: Broken) -> io::Result<()> {
-    let record = input::records(counts).wrapping_add(1);
+fn say_record(rt: &HostRuntime, counts: &[u64; 16]) {
+    say(rt, "13: record ");
+    say(rt, input::records(counts).wrapping_add(1));
+    say(rt, " of the input is ");
+}
+
+fn say_broken(rt: &HostRuntime, counts: &[u64; 16], why: Broken) {
     match why {
         Broken::Unknown(kind) => {
-            eprintln!(rt;
-                "13: record {record} of the input is of unknown kind {kind}; nothing behind it was read"
-            )
+            say_record(rt, counts);
+            say(rt, "of unknown kind ");
+            say(rt, kind);
+            say(rt, "; nothing behind it was read\n");
         }
         Broken::Unfinished(length) => {
-            eprintln!(rt;
-                "13: record {record} of the input is unfinished, with {length} of its 8 bytes"
-            )
+            say_record(rt, counts);
+            say(rt, "unfinished, with ");
+            say(rt, length);
+            say(rt, " of its 8 bytes\n");
         }
         Broken::Unread => {
-            eprintln!(rt; "ledger: standard input cannot be read: what is behind is not counted")
+            say(
+                rt,
+                "ledger: standard input cannot be read: what is behind is not counted\n",
+            );
         }
     }
 }
@@ -55,7 +71,7 @@ fn ledger(rt: &HostRuntime, form: Form) {
         say_lost(rt, "ledger");
     }
     if let Err(why) = ended {
-        let _ = say_broken(rt, &counts, why);
+        say_broken(rt, &counts, why);
     }
 }
 

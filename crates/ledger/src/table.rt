@@ -42,8 +42,19 @@ fn write_bar(rt: &HostRuntime, count: u64, largest: u64) -> io::Result<()> {
     print!(rt; "  {:#<long$}", "")
 }
 
+// A number, behind the spaces up to its first digit.
+fn write_number(rt: &HostRuntime, number: u64, width: usize) -> io::Result<()> {
+    let spaces = width.saturating_sub(digits(number));
+    if spaces > 0 {
+        print!(rt; "{:spaces$}", "")?;
+    }
+    print!(rt; "{number}")
+}
+
+// Kept: in parts: what may not change: an output that takes no more has the parts before it whole.
 fn write_row(rt: &HostRuntime, name: &str, number: u64, width: usize) -> io::Result<()> {
-    print!(rt; "{name:<50}{number:>width$}")
+    print!(rt; "{name:<50}")?;
+    write_number(rt, number, width)
 }
 
 fn write_classes(rt: &HostRuntime, counts: &[u64], largest: u64, width: usize) -> io::Result<()> {

@@ -44,9 +44,17 @@ fn seek(map: Map) -> Tally {
     tally
 }
 
+// Kept: in parts: what may not change: an output that takes no more has the parts before it whole.
+fn write_line(rt: &HostRuntime, name: &str, number: u64) -> io::Result<()> {
+    print!(rt; "{name}")?;
+    print!(rt; " ")?;
+    print!(rt; "{number}")?;
+    println!(rt; "")
+}
+
 fn write(rt: &HostRuntime, tally: Tally) -> io::Result<()> {
-    println!(rt; "found {}", tally.found)?;
-    println!(rt; "checksum {}", tally.checksum)
+    write_line(rt, "found", tally.found)?;
+    write_line(rt, "checksum", tally.checksum)
 }
 
 // One byte more than the longest map, so that a longer one is seen to be longer.
